@@ -8,11 +8,12 @@ use Rattle.um_reader.specs.Machine.{Yields}
 use Rattle.um_operands.specs.declared.infix.Infix.TheVariants as between
 use Rattle.um_operands.specs.ExprKinds.{is_plain_number}
 use Rattle.um_operands.specs.ExprBegun.{Frame, State, Need, Have, HavePower, reduce}
-use Rattle.um_expr.specs.declared.token.ExprToken.{ExprToken}
-use Rattle.um_expr.specs.declared.token.ExprToken.TheVariants.{Operator as operator}
-use Rattle.um_expr.specs.ExprTokens.{less}
+use Rattle.um_forms.specs.declared.token.ExprToken.{ExprToken}
+use Rattle.um_forms.specs.declared.token.ExprToken.TheVariants.{Operator as operator}
+use Rattle.um_forms.specs.ExprTokens.{less}
 use Rattle.um_expr.specs.ExprGrammar.{First, FirstAt, AfterNumber}
-use Rattle.um_expr.specs.ExprMachine.{infix_after, act, step}
+use Rattle.um_forms.specs.ExprForms.{infix_after}
+use Rattle.um_expr.specs.ExprMachine.{act, step}
 use Rattle.um_expr.proofs.ExprEnds.{opened, last_atom, less_free}
 use Rattle.um_expr.proofs.ExprYields.{thence, yields_first, yields_at}
 

@@ -15,10 +15,11 @@ use Rattle.um_operands.specs.declared.infix.Infix.{Infix}
 use Rattle.um_operands.specs.declared.infix.Infix.TheVariants as between
 use Rattle.um_operands.specs.Ranks.{infix_rank, left_limit}
 use Rattle.um_operands.specs.ExprBegun.{Frame, InRight, top_bound, State, Need, Have, Greater, InNote, reduce}
-use Rattle.um_expr.specs.declared.token.ExprToken.TheVariants.{Name as name, Hole as hole, Operator as operator}
-use Rattle.um_expr.specs.ExprTokens.{equal, less, greater}
+use Rattle.um_forms.specs.declared.token.ExprToken.TheVariants.{Name as name, Hole as hole, Operator as operator}
+use Rattle.um_forms.specs.ExprTokens.{equal, less, greater}
 use Rattle.um_expr.specs.ExprGrammar.{FirstAt, bound, BinderSpells, InfixAt, WrittenNote, Spells, rank, NoteFitsIn, Fits}
-use Rattle.um_expr.specs.ExprMachine.{if_may, infix_after, greater_after, act, step}
+use Rattle.um_forms.specs.ExprForms.{if_may, infix_after, greater_after}
+use Rattle.um_expr.specs.ExprMachine.{act, step}
 use Rattle.um_expr.proofs.ExprEnds.{opened, last_atom, stays, ends_as, infix_opens}
 use Rattle.um_expr.proofs.ExprAtEnd.{at_end, Reads, reads_then, need_apart, is_less, less_at_end, ends_at}
 use Rattle.um_expr.proofs.ExprYields.{thence, yields_at, yields_glued, yields_alike, yields_note, yields_note_end}
@@ -29,7 +30,7 @@ may frames rank st lt = rw lt-ltb refl
 
 -- ---- signs between two operands
 
--- behind the left operand all ends that binds as tightly as it may
+-- after the left operand all ends that binds as tightly as it may
 left_ends : (sign : Infix) (frames : List Frame) (a : ExprSyntax) → Fits a → rank a ≤ left_limit sign → infix_rank sign < top_bound frames → reduce (left_limit sign) (opened frames a) (last_atom a) ≡ Have frames a
 left_ends sign frames a fits le lt = ends_as a (left_limit sign) frames fits le ∙ stays (left_limit sign) frames a (infix_opens sign frames lt)
 
@@ -55,7 +56,7 @@ less_ends at frames a old tokens mid rest r fits le lt s =
 after_left_greater : (at : ℕ) (frames : List Frame) (a : ExprSyntax) → Fits a → rank a ≤ 5 → 6 < top_bound frames → greater_after at (reduce 5 (opened frames a) (last_atom a)) ≡ Greater frames at a
 after_left_greater at frames a fits le lt = ap (greater_after at) (left_ends (between.Compare compare.Gt) frames a fits le lt) ∙ may frames 6 (Greater frames at a) lt
 
--- `>` and the right operand, where it is read behind other signs
+-- `>` and the right operand, where it is read after other signs
 greater_ends : (at : ℕ) (frames : List Frame) (a b : ExprSyntax) (old : State) (tokens mid next rest : List Token) → Reads old tokens frames a mid → Fits a → rank a ≤ 5 → 6 < top_bound frames → FirstAt greater at mid next
     → Spells b next rest → Reads (Need (InRight at (between.Compare compare.Gt) a ∷ frames)) next (InRight at (between.Compare compare.Gt) a ∷ frames) b rest
     → Reads old tokens (InRight at (between.Compare compare.Gt) a ∷ frames) b rest

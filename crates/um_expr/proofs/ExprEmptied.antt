@@ -14,8 +14,9 @@ use Rattle.um_operands.specs.declared.focus.Focus.TheVariants as focus
 use Rattle.um_operands.specs.ExprBegun.{Frame}
 use Rattle.um_operands.specs.ExprOperands.{operand_expr}
 use Rattle.um_operands.specs.ExprFocus.{state_of, view_expected}
-use Rattle.um_expr.specs.declared.token.ExprToken.{ExprToken}
-use Rattle.um_expr.specs.ExprMachine.{act, after, power_after, inside}
+use Rattle.um_forms.specs.declared.token.ExprToken.{ExprToken}
+use Rattle.um_forms.specs.ExprForms.{inside}
+use Rattle.um_expr.specs.ExprMachine.{act, after, power_after}
 
 power_kept : (k : Kind) → power_in (unit_token (emptied_kind k)) ≡ power_in (unit_token k)
 power_kept (kind.Name x) = refl

@@ -11,9 +11,9 @@ use Rattle.um_operands.specs.Ranks.{arith_rank, infix_rank, left_limit, right_bo
 use Rattle.um_operands.specs.ExprKinds.{is_plain_number}
 use Rattle.um_operands.specs.ExprBegun.{Frame, InBracket, InItem, InField, InValue, InBody, InTest, InThen, InElse, InMatched, InEmptyArm, InFullArm, InNegate, InNot, InPown, InRight, InArgument, own_rank, top_bound, top_rank, plug, with_field, Have, reduce}
 use Rattle.um_expr.specs.ExprGrammar.{rank, Fits}
-use Rattle.um_expr.specs.ExprMachine.{less_after, infix_after}
+use Rattle.um_forms.specs.ExprForms.{less_after, infix_after}
 
--- what is open once the arguments behind a before were read, and the last one
+-- what is open once the arguments after a before were read, and the last one
 abbrev pub opened_call : List Frame → ℕ → List ℕ → List ExprSyntax → ExprSyntaxes → List Frame
 opened_call frames at f before no_exprs = frames
 opened_call frames at f before (more_exprs e no_exprs) = InArgument at f before ∷ frames

@@ -101,7 +101,7 @@ long_let : finish (read (word keyword.Let 0 ∷ letter a 4 ∷ sign symbol.Equal
     ≡ Some (let_syntax 0 (record { at = 4; name = Some a }) (name_syntax 8 b) (arith_syntax 15 arith_of.Add (name_syntax 13 a) (name_syntax 17 c)))
 long_let = refl
 
--- a + let is refused: no form that reaches to the right stands behind a sign
+-- a + let is refused: no form that reaches to the right stands after a sign
 no_let_behind : read (letter a 0 ∷ sign symbol.Plus 2 ∷ word keyword.Let 4 ∷ []) ≡ Refused
 no_let_behind = refl
 
@@ -122,7 +122,7 @@ power_in_brackets = refl
 no_sign : read (word keyword.Pown 0 ∷ letter a 5 ∷ sign symbol.LeftParen 7 ∷ zero 8 true ∷ []) ≡ Refused
 no_sign = refl
 
--- a `<` directly behind the number is refused; behind a blank or the bracket it compares
+-- a `<` directly after the number is refused; after a blank or the bracket it compares
 no_unit : read (word keyword.Pown 0 ∷ letter a 5 ∷ zero 7 false ∷ token (kind.Sign symbol.Less) 8 true ∷ []) ≡ Refused
 no_unit = refl
 

@@ -8,13 +8,14 @@ use Rattle.um_syntax.specs.declared.vocabulary.Keyword.TheVariants as keyword
 use Rattle.um_syntax.specs.declared.vocabulary.Symbol.TheVariants as symbol
 use Rattle.um_operands.specs.declared.infix.Infix.TheVariants as between
 use Rattle.um_operands.specs.ExprBegun.{Frame, InPown, InRight, Need, Have, Greater}
-use Rattle.um_expr.specs.declared.token.ExprToken.{ExprToken}
-use Rattle.um_expr.specs.declared.token.ExprToken.TheVariants.{Name as name, Number as number, Truth as truth, Operator as operator, Word as word, Mark as mark}
-use Rattle.um_expr.specs.ExprTokens.{minus}
+use Rattle.um_forms.specs.declared.token.ExprToken.{ExprToken}
+use Rattle.um_forms.specs.declared.token.ExprToken.TheVariants.{Name as name, Number as number, Truth as truth, Operator as operator, Word as word, Mark as mark}
+use Rattle.um_forms.specs.ExprTokens.{minus}
 use Rattle.um_expr.specs.ExprGrammar.{FirstAt, Spells, Fits, rank}
 use Rattle.um_types.specs.UnitTokens.{unit_token}
 use Rattle.um_types.specs.UnitMachine.{power_in}
-use Rattle.um_expr.specs.ExprMachine.{begins_atom, argument, begin_in, in_pown, pown_after, pown_bracket, act}
+use Rattle.um_forms.specs.ExprForms.{begins_atom, argument, begin_in, in_pown, pown_after, pown_bracket}
+use Rattle.um_expr.specs.ExprMachine.{act}
 use Rattle.um_expr.proofs.ExprEnds.{arith_low}
 use Rattle.um_expr.proofs.ExprYields.{FirstPasses}
 
@@ -77,7 +78,7 @@ no_pown (InPown at ∷ frames) new (name_syntax m x) e = absurd cc
 no_pown (InPown at ∷ frames) new t e = absurd cc
 no_pown frames new t e = refl
 
--- an atom behind an atom begins an argument
+-- an atom after an atom begins an argument
 pub atom_alike : (frames new : List Frame) (t : ExprSyntax) → argument frames t ≡ Some new
     → (w : ExprToken) (at : ℕ) (glued : Bool) (k : Kind) → begins_atom w ≡ true → act (Have frames t) w at glued k ≡ act (Need new) w at glued k
 atom_alike frames new t e (name x) at glued k h = ap (λ o. begin_in o (name x) at) e
@@ -92,7 +93,7 @@ atom_alike frames new t e (mark symbol.LeftBracket) at glued k h = ap (λ o. beg
 atom_alike frames new t e (mark symbol.LeftBrace) at glued k h = ap (λ o. begin_in o (mark symbol.LeftBrace) at) e
 atom_alike frames new t e _ at glued k h = absurd cc
 
--- behind `>`
+-- after `>`
 pub greater_alike : (frames : List Frame) (place : ℕ) (left : ExprSyntax) (w : ExprToken) (at : ℕ) (glued : Bool) (k : Kind) → is_no_equal w ≡ true
     → act (Greater frames place left) w at glued k ≡ act (Need (InRight place (between.Compare compare.Gt) left ∷ frames)) w at glued k
 greater_alike frames place left (operator (between.Compare compare.Eq)) at glued k h = absurd cc

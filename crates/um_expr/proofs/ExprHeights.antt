@@ -11,8 +11,7 @@ use Rattle.um_types.specs.UnitTokens.{unit_token}
 use Rattle.um_types.specs.UnitMachine.{power_in}
 use Rattle.um_types.specs.TypeHeights.{note_height, whole_height}
 use Rattle.um_types.specs.NoteMachine.{NoteState, NeedNote, HaveHole, InUnit, NoNote, note_step, note_finish, note_least}
-use Rattle.um_types.specs.TypeMachine.{TypeState, NeedType, HaveType, NoType, type_step, type_finish, type_least}
-use Rattle.um_types.specs.TypeMachine.{InNote as InTypeNote}
+use Rattle.um_types.specs.TypeMachine.{TypeState, NeedType, HaveType, NoType, type_step, type_finish, type_least, InNote as InTypeNote}
 use Rattle.um_types.proofs.NoteLaws.{note_completed, note_completed_height, note_up, note_found_height}
 use Rattle.um_types.proofs.TypeLaws.{type_completed, type_completed_height, type_up, type_found_height}
 use Rattle.um_syntax.specs.declared.vocabulary.Keyword.TheVariants as keyword
@@ -24,10 +23,11 @@ use Rattle.um_operands.specs.ExprBegun.{Frame, InBracket, InItem, InField, InVal
 use Rattle.um_operands.specs.ExprLeast.{side, least_over, expected_least, expr_least, notes_side, notes_over, expected_notes, notes_least, whole_least}
 use Rattle.um_operands.specs.ExprKinds.{is_power}
 use Rattle.um_operands.specs.ExprHeights.{notes_in, notes_in_all, notes_in_fields, whole_expr_height}
-use Rattle.um_expr.specs.declared.token.ExprToken.{ExprToken}
-use Rattle.um_expr.specs.declared.token.ExprToken.TheVariants.{Name as name, Number as number, Truth as truth, Hole as hole, Operator as operator, Word as word, Mark as mark}
-use Rattle.um_expr.specs.ExprTokens.{expr_token}
-use Rattle.um_expr.specs.ExprMachine.{if_may, empty_list, begin, after_greater, argument, begin_in, infix_after, greater_after, less_after, close_after, list_after, record_after, semi_after, in_after, then_after, else_after, with_after, bar_after, number_after, bracket_after, after, power_after, inside, note_ends, type_ends, note_goes, type_goes, step}
+use Rattle.um_forms.specs.declared.token.ExprToken.{ExprToken}
+use Rattle.um_forms.specs.declared.token.ExprToken.TheVariants.{Name as name, Number as number, Truth as truth, Hole as hole, Operator as operator, Word as word, Mark as mark}
+use Rattle.um_forms.specs.ExprTokens.{expr_token}
+use Rattle.um_forms.specs.ExprForms.{if_may, empty_list, begin, after_greater, argument, begin_in, infix_after, greater_after, less_after, close_after, list_after, record_after, semi_after, in_after, then_after, else_after, with_after, bar_after, number_after, bracket_after, inside}
+use Rattle.um_expr.specs.ExprMachine.{after, power_after, note_ends, type_ends, note_goes, type_goes, step}
 use Rattle.um_expr.proofs.ExprEnds.{infix_low}
 use Rattle.um_expr.proofs.ExprPrefixes.{SpellsPrefix}
 use Rattle.um_expr.proofs.ExprCompletions.{operand, filled, all_filled, expected_filled, expr_completed}
@@ -253,7 +253,7 @@ begin_in_up None what at n m h = tt
 argues_up : (frames : List Frame) (t : ExprSyntax) (what : ExprToken) (at : ℕ) → Above (least_over frames (expr_height t)) (notes_over frames (notes_in t)) (begin_in (argument frames t) what at)
 argues_up frames t what at = begin_in_up (argument frames t) what at (least_over frames (expr_height t)) (notes_over frames (notes_in t)) (argument_up frames t)
 
--- ---- behind what has ended
+-- ---- after what has ended
 
 infix_up : (sign : Infix) (at : ℕ) (st : State) → Above (expr_least st) (notes_least st) (infix_after sign at st)
 infix_up sign at (Have frames t) =

@@ -7,13 +7,12 @@ use Rattle.um_reader.specs.declared.taken.Taken.{Taken}
 use Rattle.um_reader.specs.declared.taken.Taken.TheVariants as taken
 use Rattle.um_types.specs.UnitStops.{greatest_height}
 use Rattle.um_types.specs.NoteMachine.{NoteState, NeedNote, HaveHole, InUnit, NoNote, note_step, note_finish, note_least, machine_of_notes}
-use Rattle.um_types.specs.TypeMachine.{TypeState, NeedType, HaveType, NoType, type_step, type_finish, type_least, machine_of_types}
-use Rattle.um_types.specs.TypeMachine.{InNote as InTypeNote}
+use Rattle.um_types.specs.TypeMachine.{TypeState, NeedType, HaveType, NoType, type_step, type_finish, type_least, machine_of_types, InNote as InTypeNote}
 use Rattle.um_types.proofs.NoteLaws.{note_found_height}
 use Rattle.um_types.proofs.TypeLaws.{type_found_height}
 use Rattle.um_operands.specs.ExprBegun.{Frame, State, InNote, InType, Refused, finish}
 use Rattle.um_operands.specs.ExprLeast.{notes_side, notes_over, whole_least}
-use Rattle.um_expr.specs.ExprTokens.{expr_token}
+use Rattle.um_forms.specs.ExprTokens.{expr_token}
 use Rattle.um_expr.specs.ExprMachine.{note_ends, type_ends, note_goes, type_goes, step, own_step, machine_of_expressions}
 use Rattle.um_expr.specs.ExprStates.{IsLow}
 
@@ -35,7 +34,7 @@ in_note frames at c n e = absurd cc
 in_type : (frames : List Frame) (at : ℕ) (s : TypeState) → InType frames at s ≢ Refused
 in_type frames at s e = absurd cc
 
--- what a token gives behind another state that ends as the same expression
+-- what a token gives after another state that ends as the same expression
 gives_again : (old other next same : State) (given : Taken) (new : State) → finish old ≡ finish other → next ≡ same → Gives machine_of_expressions greatest_height old next given new
     → Gives machine_of_expressions greatest_height other same given new
 gives_again old other next same taken.Goes new f e g = (g.0 ∙ e, g.1, g.2)

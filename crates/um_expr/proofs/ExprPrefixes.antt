@@ -14,18 +14,18 @@ use Rattle.um_operands.specs.declared.infix.Infix.TheVariants as between
 use Rattle.um_operands.specs.Ranks.{infix_rank, left_limit, right_bound, infix_text}
 use Rattle.um_operands.specs.ExprBegun.{Frame, InBracket, InItem, InField, InValue, InBody, InTest, InThen, InElse, InMatched, InEmptyArm, InFullArm, InNegate, InNot, InPown, InRight, InArgument, bound_of, own_rank, top_bound, plug, with_field, Expected, LetBinder, LetEqual, FieldName, FieldEqual, DotName, ArmBegin, ArmOpen, ArmClose, ArmArrow, HeadBinder, HeadCons, TailBinder, TailArrow, NilColon, PownMinus, PownDigits, PownClose, State, Need, Have, HavePower, Greater, Inside, InNote, InType, Refused, reduce}
 use Rattle.um_operands.specs.ExprKinds.{is_power}
-use Rattle.um_expr.specs.declared.token.ExprToken.TheVariants.{Name as name, Number as number, Word as word, Mark as mark}
-use Rattle.um_expr.specs.ExprTokens.{equal, less, greater, minus, double_colon}
+use Rattle.um_forms.specs.declared.token.ExprToken.TheVariants.{Name as name, Number as number, Word as word, Mark as mark}
+use Rattle.um_forms.specs.ExprTokens.{equal, less, greater, minus, double_colon}
 use Rattle.um_expr.specs.ExprGrammar.{First, FirstAt, FirstGlued, BinderSpells, InfixAt, FirstPower, EmptyArm, FullArm, Spells, AllSpell, ItemsSpell, MoreItems, FieldsSpell, MoreFields, rank, IsAny, Fits, AreAtoms, AllFit, FieldsFit}
 use Rattle.um_expr.proofs.ExprEnds.{infix_low}
 use Rattle.um_expr.proofs.ExprSuffixes.{Leaves, leaves_then, leaves_first, leaves_at, leaves_expr, leaves_arguments, leaves_sign, leaves_empty_arm, leaves_full_arm, NumberFree, free_more}
 
--- each item with the `;` behind it
+-- each item with the `;` after it
 abbrev pub ItemsRead : List ExprSyntax → List Token → List Token → Type 0
 ItemsRead [] tokens rest = tokens ≡ rest
 ItemsRead (e ∷ es) tokens rest = (mid next : List Token) × Spells e tokens mid × First (mark symbol.Semicolon) mid next × ItemsRead es next rest
 
--- each field with the `;` behind it
+-- each field with the `;` after it
 abbrev pub FieldsRead : List FieldPart → List Token → List Token → Type 0
 FieldsRead [] tokens rest = tokens ≡ rest
 FieldsRead (f ∷ fs) tokens rest =
@@ -144,7 +144,7 @@ ExpectedFits (PownClose at e k) frames = (1 < top_bound frames) × (rank e ≡ 0
 abbrev pub AtFocus : List Frame → ExprSyntax → Type 0
 AtFocus frames t = (rank t ≡ 0) ⊎ ((is_power t ≡ true) × (1 < top_bound frames))
 
--- it stands behind the frames
+-- it stands after the frames
 abbrev pub FocusReads : List Frame → ExprSyntax → List Token → List Token → Type 0
 FocusReads frames t tokens rest = (mid : List Token) × FramesRead frames tokens mid × Spells t mid rest × FramesFit frames × Fits t × AtFocus frames t
 
@@ -255,7 +255,7 @@ plug_reads (InThen at c) t tokens mid rest h f s = absurd (omega arith)
 plug_reads (InMatched at) t tokens mid rest h f s = absurd (omega arith)
 plug_reads (InEmptyArm at l) t tokens mid rest h f s = absurd (omega arith)
 
--- a frame that needs no token to end leaves the tokens behind it
+-- a frame that needs no token to end leaves the tokens after it
 plug_leaves : (frame : Frame) (frames : List Frame) (tokens rest : List Token) → own_rank frame < 10 → FrameFits frame frames → FrameReads frame tokens rest → Leaves tokens rest
 plug_leaves (InBody at x v) frames tokens rest h f s =
     let l = s.2 in leaves_then (leaves_at l.2) (leaves_then (leaves_at l.3) (leaves_then (leaves_first l.4) (leaves_then (leaves_expr v s.0 s.1 s.3 f.1) (leaves_first s.4))))

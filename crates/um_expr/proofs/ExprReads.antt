@@ -4,8 +4,7 @@ use Rattle.um_frac.specs.declared.number.Frac.{Frac}
 use Rattle.std.proofs.lemmas.Bool.{lt-ltb}
 use Rattle.um_syntax.specs.declared.token.Token.{Token}
 use Rattle.um_syntax.specs.declared.token.Kind.{Kind}
-use Rattle.um_tree.specs.RawTree.{TypeSyntax, BinderSyntax, ExprSyntax, ExprSyntaxes, FieldSyntaxes, FieldPart, truth_syntax, number_syntax, name_syntax, call_syntax, negate_syntax, not_syntax, pown_syntax, arith_syntax, compare_syntax, and_syntax, or_syntax, if_syntax, let_syntax, match_syntax, nil_syntax, list_syntax, cons_syntax, fields_syntax, field_syntax, bracket_expr_syntax, no_exprs, more_exprs, no_fields, more_fields}
-use Rattle.um_tree.specs.RawTree.{NoteSyntax}
+use Rattle.um_tree.specs.RawTree.{TypeSyntax, BinderSyntax, ExprSyntax, ExprSyntaxes, FieldSyntaxes, FieldPart, truth_syntax, number_syntax, name_syntax, call_syntax, negate_syntax, not_syntax, pown_syntax, arith_syntax, compare_syntax, and_syntax, or_syntax, if_syntax, let_syntax, match_syntax, nil_syntax, list_syntax, cons_syntax, fields_syntax, field_syntax, bracket_expr_syntax, no_exprs, more_exprs, no_fields, more_fields, NoteSyntax}
 use Rattle.um_types.specs.UnitTokens.{unit_token}
 use Rattle.um_types.specs.UnitMachine.{power_in}
 use Rattle.um_types.specs.TypeMachine.{NeedType}
@@ -16,15 +15,16 @@ use Rattle.um_reader.specs.Machine.{Yields}
 use Rattle.um_operands.specs.declared.infix.Infix.TheVariants as between
 use Rattle.um_operands.specs.ExprBegun.{Frame, InBracket, InItem, InField, InValue, InBody, InTest, InThen, InElse, InMatched, InEmptyArm, InFullArm, InNegate, InNot, InPown, InRight, InArgument, top_bound, with_field, LetBinder, LetEqual, FieldName, FieldEqual, DotName, ArmBegin, ArmOpen, ArmClose, ArmArrow, HeadBinder, HeadCons, TailBinder, TailArrow, NilColon, PownMinus, PownDigits, PownClose, State, Need, Have, HavePower, Inside, InType, Refused}
 use Rattle.um_operands.specs.ExprKinds.{is_power, is_plain_number}
-use Rattle.um_expr.specs.declared.token.ExprToken.TheVariants.{Name as name, Number as number, Truth as truth, Operator as operator, Word as word, Mark as mark}
-use Rattle.um_expr.specs.ExprTokens.{equal, minus, double_colon}
+use Rattle.um_forms.specs.declared.token.ExprToken.TheVariants.{Name as name, Number as number, Truth as truth, Operator as operator, Word as word, Mark as mark}
+use Rattle.um_forms.specs.ExprTokens.{equal, minus, double_colon}
 use Rattle.um_expr.specs.ExprGrammar.{First, FirstAt, AfterNumber, WrittenNote, EmptyArm, FullArm, NilSpells, FirstPower, PowerSpells, Spells, AllSpell, MoreItems, MoreFields, rank, Fits, AreAtoms, AllFit, FieldsFit}
-use Rattle.um_expr.specs.ExprMachine.{act, argument, inside, pown_after, with_after, bar_after, close_after, list_after, record_after, semi_after, in_after, then_after, else_after, step, begins_atom}
+use Rattle.um_forms.specs.ExprForms.{argument, inside, pown_after, with_after, bar_after, close_after, list_after, record_after, semi_after, in_after, then_after, else_after, begins_atom}
+use Rattle.um_expr.specs.ExprMachine.{act, step}
 use Rattle.um_expr.proofs.ExprEnds.{opened_call, last_argument, last_atom, atom_opened, atom_last, rank_low, arith_low, put, put_last, order_last, put_fields, put_field_last, field_order_last, ends_whole}
 use Rattle.um_expr.proofs.ExprYields.{thence, yields_first, yields_at, yields_alike, yields_type, yields_type_end}
-use Rattle.um_expr.specs.declared.token.ExprToken.{ExprToken}
+use Rattle.um_forms.specs.declared.token.ExprToken.{ExprToken}
 use Rattle.um_syntax.specs.declared.token.Kind.TheVariants as kind
-use Rattle.um_expr.specs.ExprTokens.{expr_token}
+use Rattle.um_forms.specs.ExprTokens.{expr_token}
 use Rattle.um_expr.proofs.ExprAtEnd.{at_end, ReadsTo, Reads, reads_then, plain_end, need_apart, is_less, end_alike, ends_first, ends_at}
 use Rattle.um_expr.proofs.ExprFirsts.{first_atom, atom_alike}
 use Rattle.um_expr.proofs.ExprComplete.{may, sign_ends, compare_ends, yields_binder, yields_written}
@@ -137,7 +137,7 @@ first_argument at f (InPown m ∷ frames) lt = absurd (omega arith)
 first_argument at f (InRight m sign left ∷ frames) lt = rw lt-ltb refl
 first_argument at f (InArgument m g before ∷ frames) lt = absurd (omega arith)
 
--- an atom behind an atom
+-- an atom after an atom
 begins_atoms : (w : ExprToken) → begins_atom w ≡ true → is_less w ≡ false
 begins_atoms (operator sign) h = absurd cc
 begins_atoms w h = refl
@@ -305,7 +305,7 @@ mutual
       = ends_first inner (Have frames (bracket_expr_syntax at e)) (mark symbol.RightParen) s.4 refl (λ p g k. ap close_after (ends_whole e (InBracket at ∷ frames) fits (omega arith))) in
       plain_end (Need frames) tokens frames (bracket_expr_syntax at e) rest y refl
 
-  -- the arguments behind the first
+  -- the arguments after the first
   complete_arguments : (es : ExprSyntaxes) (e t : ExprSyntax) (at : ℕ) (f : List ℕ) (before : List ExprSyntax) (frames : List Frame) (old : State) (begun tokens rest : List Token)
       → ReadsTo old begun (InArgument at f before ∷ frames) e tokens → AllSpell es tokens rest → AreAtoms es → ReadsTo old begun (opened_call frames at f before (more_exprs e es)) (last_argument t (more_exprs e es)) rest
   complete_arguments no_exprs e t at f before frames old begun tokens rest r s fits = subst (λ w. ReadsTo old begun (InArgument at f before ∷ frames) e w) s r
@@ -315,7 +315,7 @@ mutual
       let atom : ReadsTo (Need more) tokens more d s.0 = at_atom (Need more) tokens more d s.0 fits.0 (complete d more tokens s.0 s.1 fits.1 (omega (arith, fits.0))) in
       complete_arguments es d t at f (before ++ e ∷ []) frames old begun s.0 rest (begins_argument held more more e d d old begun tokens s.0 s.0 r refl s.1 fits.1 fits.0 atom) s.2 fits.2
 
-  -- the items behind the first, and `]`
+  -- the items after the first, and `]`
   complete_items : (es : ExprSyntaxes) (e : ExprSyntax) (at : ℕ) (before : List ExprSyntax) (frames : List Frame) (old : State) (begun tokens mid rest : List Token) → Reads old begun (InItem at before ∷ frames) e tokens
       → MoreItems es tokens mid → Fits e → AllFit es → First (mark symbol.RightBracket) mid rest → Yields step old begun (Have frames (list_syntax at (put before (more_exprs e es)))) rest
   complete_items no_exprs e at before frames old begun tokens mid rest r s fit fits f =
@@ -325,7 +325,7 @@ mutual
       let next : Reads old begun (InItem at more ∷ frames) d s.1 = reads_then (next_item frames at before e old begun tokens s.0 r fit s.2) (complete d (InItem at more ∷ frames) s.0 s.1 s.3 fits.0 (omega (arith, rank_low d))) in
       subst (λ w. Yields step old begun (Have frames (list_syntax at w)) rest) (put_last before e (more_exprs d es)) (complete_items es d at more frames old begun s.1 mid rest next s.4 fits.0 fits.1 f)
 
-  -- the fields behind the first, and `}`
+  -- the fields after the first, and `}`
   complete_fields : (fs : FieldSyntaxes) (place : ℕ) (x : List ℕ) (e : ExprSyntax) (at : ℕ) (before : List FieldPart) (frames : List Frame) (old : State) (begun tokens mid rest : List Token)
       → Reads old begun (InField at before place x ∷ frames) e tokens → MoreFields fs tokens mid → Fits e → FieldsFit fs → First (mark symbol.RightBrace) mid rest
       → Yields step old begun (Have frames (fields_syntax at (put_fields before (more_fields place x e fs)))) rest

@@ -10,8 +10,7 @@ use Rattle.um_reader.specs.Machine.{runs}
 use Rattle.um_types.specs.UnitTokens.{unit_token}
 use Rattle.um_types.specs.UnitMachine.{State as UnitState, power_in}
 use Rattle.um_types.specs.NoteMachine.{NoteState, NeedNote, HaveHole, InUnit, NoNote, note_step, note_finish}
-use Rattle.um_types.specs.TypeMachine.{TypeState, NeedType, HaveType, NoType, type_step, type_finish}
-use Rattle.um_types.specs.TypeMachine.{InNote as InTypeNote}
+use Rattle.um_types.specs.TypeMachine.{TypeState, NeedType, HaveType, NoType, type_step, type_finish, InNote as InTypeNote}
 use Rattle.um_types.proofs.NoteLaws.{NoteSpellsPrefix, note_sound, note_found}
 use Rattle.um_types.proofs.TypeSound.{TypeSpellsPrefix, type_sound, type_found}
 use Rattle.um_syntax.specs.declared.vocabulary.Keyword.TheVariants as keyword
@@ -21,11 +20,12 @@ use Rattle.um_operands.specs.declared.infix.Infix.TheVariants as between
 use Rattle.um_operands.specs.Ranks.{infix_rank, left_limit}
 use Rattle.um_operands.specs.ExprBegun.{Frame, InBracket, InItem, InField, InValue, InTest, InThen, InMatched, InEmptyArm, InNegate, InNot, InPown, InRight, InArgument, top_bound, with_field, Expected, LetBinder, LetEqual, FieldName, FieldEqual, DotName, ArmBegin, ArmOpen, ArmClose, ArmArrow, HeadBinder, HeadCons, TailBinder, TailArrow, NilColon, PownMinus, PownDigits, PownClose, State, Need, Have, HavePower, Greater, Inside, InNote, InType, Refused, reduce, whole, finish}
 use Rattle.um_operands.specs.ExprKinds.{is_power, is_plain_number}
-use Rattle.um_expr.specs.declared.token.ExprToken.{ExprToken}
-use Rattle.um_expr.specs.declared.token.ExprToken.TheVariants.{Name as name, Number as number, Truth as truth, Hole as hole, Operator as operator, Word as word, Mark as mark}
-use Rattle.um_expr.specs.ExprTokens.{expr_token, equal, less, greater}
+use Rattle.um_forms.specs.declared.token.ExprToken.{ExprToken}
+use Rattle.um_forms.specs.declared.token.ExprToken.TheVariants.{Name as name, Number as number, Truth as truth, Hole as hole, Operator as operator, Word as word, Mark as mark}
+use Rattle.um_forms.specs.ExprTokens.{expr_token, equal, less, greater}
 use Rattle.um_expr.specs.ExprGrammar.{First, FirstAt, FirstGlued, AfterNumber, InfixAt, Spells, rank, Fits}
-use Rattle.um_expr.specs.ExprMachine.{if_may, empty_list, begin, after_greater, argument, begin_in, infix_after, greater_after, less_after, close_after, list_after, record_after, semi_after, in_after, then_after, else_after, with_after, bar_after, pown_after, number_after, bracket_after, after, power_after, inside, note_ends, type_ends, note_goes, type_goes, step}
+use Rattle.um_forms.specs.ExprForms.{if_may, empty_list, begin, after_greater, argument, begin_in, infix_after, greater_after, less_after, close_after, list_after, record_after, semi_after, in_after, then_after, else_after, with_after, bar_after, pown_after, number_after, bracket_after, inside}
+use Rattle.um_expr.specs.ExprMachine.{after, power_after, note_ends, type_ends, note_goes, type_goes, step}
 use Rattle.um_expr.proofs.ExprEnds.{infix_low, arith_low}
 use Rattle.um_expr.proofs.ExprAtEnd.{is_less}
 use Rattle.um_expr.proofs.ExprSuffixes.{Leaves, leaves_then, leaves_first, leaves_at, leaves_expr, NumberFree, free_first, number_apart, atom_free}
@@ -76,7 +76,7 @@ begin_sound frames (word keyword.Pown) at tokens mid rest r f s = may_sound fram
 begin_sound frames (operator (between.Arith arith_of.Sub)) at tokens mid rest r f s = may_sound frames 2 (Need (InNegate at ∷ frames)) tokens rest (λ lt. ((mid, r, s), (lt, f)))
 begin_sound frames _ at tokens mid rest r f s = tt
 
--- behind `>`
+-- after `>`
 greater_frame : (frames : List Frame) (place : ℕ) (left : ExprSyntax) (tokens rest : List Token) → SpellsPrefix (Greater frames place left) tokens rest
     → FramesRead (InRight place (between.Compare compare.Gt) left ∷ frames) tokens rest × FramesFit (InRight place (between.Compare compare.Gt) left ∷ frames)
 greater_frame frames place left tokens rest h = ((h.0, h.2, (h.1, h.3, h.4)), ((h.6, h.7, h.8), h.5))
@@ -173,7 +173,7 @@ less_then : (frames : List Frame) (t : ExprSyntax) (at : ℕ) (glued : Bool) (to
 less_then frames t at glued tokens mid rest h s free =
     infix_then frames t (between.Compare compare.Lt) at tokens mid rest h (λ left e. (s.0, s.1, s.2, (λ n. s.3 ∙ free left e n), s.4))
 
--- a `<` that isn't directly behind a number
+-- a `<` that isn't directly after a number
 less_spaced : (frames : List Frame) (t : ExprSyntax) (at : ℕ) (tokens mid rest : List Token) → FocusReads frames t tokens mid → Next less at false mid rest
     → SpellsPrefix (infix_after (between.Compare compare.Lt) at (reduce 5 frames t)) tokens rest
 less_spaced frames t at tokens mid rest h s = less_then frames t at false tokens mid rest h s (λ left e n. refl)
@@ -294,7 +294,7 @@ after_sound frames t (operator between.Cons) at glued tokens mid rest h s free =
 after_sound frames t (operator (between.Arith op)) at glued tokens mid rest h s free = infix_then frames t (between.Arith op) at tokens mid rest h (λ u e. (s.0, s.1, s.2, s.4))
 after_sound frames t _ at glued tokens mid rest h s free = tt
 
--- behind the number of a whole power
+-- after the number of a whole power
 power_sound : (frames : List Frame) (t : ExprSyntax) (what : ExprToken) (at : ℕ) (glued : Bool) (tokens mid rest : List Token) → FocusReads frames t tokens mid → (s : Next what at glued mid rest)
     → SpellsPrefix (power_after frames t what at glued (power_in (unit_token s.0.kind))) tokens rest
 power_sound frames t (operator (between.Compare compare.Lt)) at true tokens mid rest h s = tt

@@ -1,4 +1,4 @@
--- What is read leaves the tokens behind it, and which token is the last.
+-- What is read leaves the tokens after it, and which token is the last.
 use Rattle.std.proofs.Common.{◌≡◌, ℕ, List, [], ◌∷◌, ◌++◌, Bool, true, false, Some, None, refl, sym, ap, ◌∙◌, append_assoc, reverse, arith, inl, inr, ◌⊎◌}
 use Rattle.std.proofs.lemmas.List.{append_cancel_right, reverse-append}
 use Rattle.um_syntax.specs.declared.token.Token.{Token}
@@ -11,14 +11,14 @@ use Rattle.um_syntax.specs.declared.vocabulary.Symbol.TheVariants as symbol
 use Rattle.um_operands.specs.declared.infix.Infix.{Infix}
 use Rattle.um_operands.specs.declared.infix.Infix.TheVariants as between
 use Rattle.um_operands.specs.ExprKinds.{is_plain_number}
-use Rattle.um_expr.specs.declared.token.ExprToken.{ExprToken}
-use Rattle.um_expr.specs.declared.token.ExprToken.TheVariants.{Name as name, Number as number, Truth as truth, Mark as mark}
-use Rattle.um_expr.specs.ExprTokens.{expr_token, greater}
+use Rattle.um_forms.specs.declared.token.ExprToken.{ExprToken}
+use Rattle.um_forms.specs.declared.token.ExprToken.TheVariants.{Name as name, Number as number, Truth as truth, Mark as mark}
+use Rattle.um_forms.specs.ExprTokens.{expr_token, greater}
 use Rattle.um_expr.specs.ExprGrammar.{First, FirstAt, FirstGlued, AfterNumber, InfixAt, EmptyArm, FullArm, Spells, AllSpell, ItemsSpell, MoreItems, FieldsSpell, MoreFields, rank, Fits, AreAtoms, AllFit, FieldsFit}
 use Rattle.um_expr.proofs.ExprEnds.{rank_low, arith_low}
 use Rattle.um_expr.proofs.ExprReads.{complete}
 
--- ---- the tokens behind
+-- ---- the tokens after
 
 abbrev pub Leaves : List Token → List Token → Type 0
 Leaves tokens rest = (read : List Token) × (tokens ≡ read ++ rest)

@@ -7,9 +7,9 @@ use Rattle.um_syntax.specs.declared.vocabulary.Symbol.{Symbol}
 use Rattle.um_syntax.specs.declared.vocabulary.Symbol.TheVariants as symbol
 use Rattle.um_types.specs.UnitTokens.{unit_token}
 use Rattle.um_types.specs.UnitMachine.{is_foreign}
-use Rattle.um_expr.specs.declared.token.ExprToken.{ExprToken}
-use Rattle.um_expr.specs.declared.token.ExprToken.TheVariants.{Word as word, Mark as mark}
-use Rattle.um_expr.specs.ExprTokens.{expr_token, equal, greater}
+use Rattle.um_forms.specs.declared.token.ExprToken.{ExprToken}
+use Rattle.um_forms.specs.declared.token.ExprToken.TheVariants.{Word as word, Mark as mark}
+use Rattle.um_forms.specs.ExprTokens.{expr_token, equal, greater}
 
 pub mark_is : (k : Kind) (s : Symbol) → expr_token k ≡ mark s → k ≡ kind.Sign s
 mark_is (kind.Sign symbol.Less) s e = cc

@@ -7,8 +7,7 @@ use Rattle.um_tree.specs.RawTree.{NoteSyntax, TypeSyntax, number_syntax, nil_syn
 use Rattle.um_reader.specs.Machine.{runs}
 use Rattle.um_types.specs.TypeGrammar.{NoteSpells, NoteFits, TypeSpells, TypeFits}
 use Rattle.um_types.specs.NoteMachine.{NoteState, NeedNote, HaveHole, InUnit, NoNote, note_step, note_finish}
-use Rattle.um_types.specs.TypeMachine.{TypeState, NeedType, HaveType, NoType, type_after, type_step, type_finish}
-use Rattle.um_types.specs.TypeMachine.{InNote as InTypeNote}
+use Rattle.um_types.specs.TypeMachine.{TypeState, NeedType, HaveType, NoType, type_after, type_step, type_finish, InNote as InTypeNote}
 use Rattle.um_types.specs.UnitTokens.{unit_token}
 use Rattle.um_types.specs.UnitMachine.{is_foreign}
 use Rattle.um_reader.proofs.Reaching.{lift}
@@ -18,9 +17,9 @@ use Rattle.um_syntax.specs.declared.vocabulary.Symbol.TheVariants as symbol
 use Rattle.um_reader.specs.Machine.{Yields}
 use Rattle.um_reader.proofs.Reaching.{yields_then}
 use Rattle.um_operands.specs.ExprBegun.{Frame, State, Have, InNote, InType}
-use Rattle.um_expr.specs.declared.token.ExprToken.{ExprToken}
-use Rattle.um_expr.specs.declared.token.ExprToken.TheVariants.{Mark as mark}
-use Rattle.um_expr.specs.ExprTokens.{expr_token, greater}
+use Rattle.um_forms.specs.declared.token.ExprToken.{ExprToken}
+use Rattle.um_forms.specs.declared.token.ExprToken.TheVariants.{Mark as mark}
+use Rattle.um_forms.specs.ExprTokens.{expr_token, greater}
 use Rattle.um_expr.specs.ExprGrammar.{First, FirstAt, FirstGlued}
 use Rattle.um_expr.specs.ExprMachine.{note_ends, type_ends, note_goes, type_goes, act, step}
 use Rattle.um_expr.proofs.ExprTokenKinds.{greater_is, mark_is}

@@ -12,7 +12,6 @@ pub mod ExprCompletions
 pub mod ExprHeights
 pub mod ExprLaws
 mod ExprReading
-mod ExprRefusals
 mod ExprExamples
 mod ExprInside
 mod ExprEmptied

@@ -2,7 +2,7 @@
 --   expr  = "let" binder "=" expr "in" expr | "if" expr "then" expr "else" expr
 --         | "match" expr "with" [ "|" ] "[" "]" "->" expr "|" binder "::" binder "->" expr | or
 --   or    = and { "||" and }          and = cmp { "&&" cmp }        both associate to the left
---   cmp   = cons [ sign cons ]        sign = "<" | "<=" | "=" | "<>" | ">" | ">" and "=" directly behind it
+--   cmp   = cons [ sign cons ]        sign = "<" | "<=" | "=" | "<>" | ">" | ">" and "=" directly after it
 --   cons  = add [ "::" cons ]
 --   add   = mul { ( "+" | "-" ) mul } mul = un { ( "*" | "/" ) un } both associate to the left
 --   un    = "-" un | app
@@ -12,27 +12,26 @@
 --         | "[" expr { ";" expr } "]" | "{" Name "=" expr { ";" Name "=" expr } "}"
 -- Each level is a rank, so the relation has one case for each form of expression.
 -- Source: the F# specification, chapter Expressions, for the forms that this language has.
-use Rattle.std.specs.Prelude.{◌≡◌, ℕ, ℤ, pos, neg_ℤ, ◌≤◌, ◌<◌, true, false, ◌⊎◌, List, [], ◌∷◌, ◌++◌, Option}
-use Rattle.std.specs.Prelude.{Some, None}
+use Rattle.std.specs.Prelude.{◌≡◌, ℕ, ℤ, pos, neg_ℤ, ◌≤◌, ◌<◌, true, false, ◌⊎◌, List, [], ◌∷◌, ◌++◌, Option, Some}
+use Rattle.std.specs.Prelude.{None}
 use Rattle.um_frac.specs.declared.number.Frac.{Frac}
 use Rattle.um_syntax.specs.declared.token.Token.{Token}
 use Rattle.um_tree.specs.declared.expression.Sign.TheVariants as compare
 use Rattle.um_tree.specs.RawTree.{NoteSyntax, TypeSyntax, BinderSyntax, ExprSyntax, ExprSyntaxes, FieldSyntaxes}
 use Rattle.um_tree.specs.RawTree.{truth_syntax, number_syntax, name_syntax, call_syntax, negate_syntax, not_syntax}
 use Rattle.um_tree.specs.RawTree.{pown_syntax, arith_syntax, compare_syntax, and_syntax, or_syntax, if_syntax}
-use Rattle.um_tree.specs.RawTree.{let_syntax}
-use Rattle.um_tree.specs.RawTree.{match_syntax, nil_syntax, list_syntax, cons_syntax, fields_syntax, field_syntax}
-use Rattle.um_tree.specs.RawTree.{bracket_expr_syntax, no_exprs, more_exprs, no_fields, more_fields}
+use Rattle.um_tree.specs.RawTree.{let_syntax, match_syntax, nil_syntax, list_syntax, cons_syntax, fields_syntax}
+use Rattle.um_tree.specs.RawTree.{field_syntax, bracket_expr_syntax, no_exprs, more_exprs, no_fields, more_fields}
 use Rattle.um_syntax.specs.declared.vocabulary.Keyword.TheVariants as keyword
 use Rattle.um_syntax.specs.declared.vocabulary.Symbol.TheVariants as symbol
 use Rattle.um_operands.specs.declared.infix.Infix.{Infix}
 use Rattle.um_operands.specs.declared.infix.Infix.TheVariants as between
 use Rattle.um_operands.specs.Ranks.{arith_rank}
-use Rattle.um_expr.specs.declared.token.ExprToken.{ExprToken}
-use Rattle.um_expr.specs.declared.token.ExprToken.TheVariants.{Name as name, Number as number, Truth as truth}
-use Rattle.um_expr.specs.declared.token.ExprToken.TheVariants.{Hole as hole, Operator as operator, Word as word}
-use Rattle.um_expr.specs.declared.token.ExprToken.TheVariants.{Mark as mark}
-use Rattle.um_expr.specs.ExprTokens.{expr_token, equal, less, greater, minus, double_colon}
+use Rattle.um_forms.specs.declared.token.ExprToken.{ExprToken}
+use Rattle.um_forms.specs.declared.token.ExprToken.TheVariants.{Name as name, Number as number, Truth as truth}
+use Rattle.um_forms.specs.declared.token.ExprToken.TheVariants.{Hole as hole, Operator as operator, Word as word}
+use Rattle.um_forms.specs.declared.token.ExprToken.TheVariants.{Mark as mark}
+use Rattle.um_forms.specs.ExprTokens.{expr_token, equal, less, greater, minus, double_colon}
 use Rattle.um_types.specs.UnitTokens.{unit_token}
 use Rattle.um_types.specs.UnitMachine.{power_in}
 use Rattle.um_types.specs.TypeGrammar.{NoteSpells, NoteFits, TypeSpells, TypeFits}
@@ -46,7 +45,7 @@ abbrev pub FirstAt : ExprToken → ℕ → List Token → List Token → Type 0
 FirstAt what at tokens rest =
     (token : Token) × (expr_token token.kind ≡ what) × (token.start ≡ at) × (tokens ≡ token ∷ rest)
 
--- the same, directly behind the token before it
+-- the same, directly after the token before it
 abbrev pub FirstGlued : ExprToken → List Token → List Token → Type 0
 FirstGlued what tokens rest =
     (token : Token) × (expr_token token.kind ≡ what) × (token.glued ≡ true) × (tokens ≡ token ∷ rest)
@@ -64,7 +63,7 @@ abbrev pub AfterNumber : List Token → List Token → Type 0
 AfterNumber tokens rest = (read last : List Token) × (c : Frac) × (tokens ≡ read ++ last) × First (number c) last rest
 
 -- A sign between two operands, where the left one begins these tokens.
--- A `<` directly behind a number is none: it opens a unit. `>=` is `>` and `=` directly behind it, at the `>`.
+-- A `<` directly after a number is none: it opens a unit. `>=` is `>` and `=` directly after it, at the `>`.
 abbrev pub InfixAt : Infix → List Token → ℕ → List Token → List Token → Type 0
 InfixAt (between.Compare compare.Lt) left at tokens rest =
     (token : Token) × (expr_token token.kind ≡ less) × (token.start ≡ at)
@@ -73,18 +72,18 @@ InfixAt (between.Compare compare.Ge) left at tokens rest =
     (next : List Token) × FirstAt greater at tokens next × FirstGlued equal next rest
 InfixAt sign left at tokens rest = FirstAt (operator sign) at tokens rest
 
--- the note of a number, directly behind it
+-- the note of a number, directly after it
 abbrev pub WrittenNote : Option NoteSyntax → List Token → List Token → Type 0
 WrittenNote None tokens rest = tokens ≡ rest
 WrittenNote (Some n) tokens rest =
     (next last : List Token) × FirstGlued less tokens next × NoteSpells n next last × First greater last rest
 
--- a number of digits alone, which has this value: as behind `^` in a unit text
+-- a number of digits alone, which has this value: as after `^` in a unit text
 abbrev pub FirstPower : ℕ → List Token → List Token → Type 0
 FirstPower n tokens rest =
     (token : Token) × (power_in (unit_token token.kind) ≡ Some n) × (tokens ≡ token ∷ rest)
 
--- the power of `pown`: such a number, or one behind `-` in brackets
+-- the power of `pown`: such a number, or one after `-` in brackets
 abbrev pub PowerSpells : ℤ → List Token → List Token → Type 0
 PowerSpells k tokens rest =
     ((n : ℕ) × (k ≡ pos n) × FirstPower n tokens rest)
@@ -166,7 +165,7 @@ abbrev mutual
       (next last : List Token) × FirstAt (mark symbol.LeftParen) at tokens next × Spells e next last
       × First (mark symbol.RightParen) last rest
 
-  -- one behind the other
+  -- one after the other
   pub AllSpell : ExprSyntaxes → List Token → List Token → Type 0
   AllSpell no_exprs tokens rest = tokens ≡ rest
   AllSpell (more_exprs e es) tokens rest = (mid : List Token) × Spells e tokens mid × AllSpell es mid rest

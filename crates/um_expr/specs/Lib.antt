@@ -1,5 +1,4 @@
--- what a reader must trust: the tokens, the grammar
-pub mod ExprTokens
+-- what a reader must trust: the grammar
 pub mod ExprGrammar
 -- what mirrors the code: the machine that reads token by token, and what the reader holds
 pub mod ExprMachine

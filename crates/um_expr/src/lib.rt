@@ -7,17 +7,10 @@
 //! ```
 #![tactic(auto)]
 
-mod argument;
-mod begin;
-mod closing;
-mod expected;
 pub mod laws;
-mod operator;
-mod power;
 mod reader;
 mod step;
-mod token;
 
 pub use reader::ExprReader;
-pub use token::ExprToken;
+pub use um_forms::ExprToken;
 pub use um_operands::Infix;

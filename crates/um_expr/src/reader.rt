@@ -11,26 +11,27 @@ ghost use Rattle.um_operands.specs.ExprBegun.{NilColon, State, Need, Have, Insid
 ghost use Rattle.um_operands.specs.ExprLeast.{whole_least};
 ghost use Rattle.um_operands.specs.ExprOperands.{operand_expr};
 ghost use Rattle.um_operands.specs.ExprStack.{frames_of};
-ghost use Rattle.um_operands.specs.ExprFocus.{state_of};
+ghost use Rattle.um_operands.specs.ExprFocus.{state_of, open_in, begun_state};
 ghost use Rattle.um_expr.specs.ExprMachine.{own_step, machine_of_expressions};
-ghost use Rattle.um_expr.specs.ExprStates.{inner_state, expr_state, IsLow, Simulates};
+ghost use Rattle.um_forms.specs.ExprSteps.{Simulates};
+ghost use Rattle.um_expr.specs.ExprStates.{expr_state, IsLow};
 
-use crate::argument::name_argument;
-use crate::closing::{end_by_mark, end_by_word};
-use crate::operator::{infix_after, less_after};
 use crate::step::{note_ends, step, type_ends};
-use crate::token::{ExprToken, plain_operator, plain_word};
 use std::alloc::{AllocError, Global};
 use std::mem;
+use um_forms::{
+    ExprToken, end_by_mark, end_by_word, infix_after, less_after, name_argument, plain_operator,
+    plain_word,
+};
 use um_frac::Frac;
-use um_operands::{Expected, Focus, Frames, Operand, Step, is_low, whole};
+use um_operands::{Begun, Expected, Focus, Frames, Operand, Step, is_low, whole};
 use um_reader::Taken;
 use um_syntax::{Kind, Symbol, Token};
 use um_tree::{RawExpr, RawNote, RawType};
 use um_types::{NoteReader, TypeReader, name_of};
 
-/// What is read inside the focus: nothing, the note of a number with its value, or the type of an empty list, at the place of
-/// each.
+/// What is read inside the focus, at its place: nothing, the note of a number with this value, or the type of an empty
+/// list.
 #[derive(Drop)]
 pub enum Inner {
     Nothing,
@@ -38,11 +39,10 @@ pub enum Inner {
     Type(u32, TypeReader),
 }
 
-/// An expression that has begun: the open frames, what stands inside them, and the note or the type there.
+/// An expression that has begun, with the note or the type that is read inside it.
 #[derive(Drop)]
 pub struct ExprReader {
-    frames: Frames,
-    focus: Focus,
+    begun: Begun,
     inner: Inner,
 }
 
@@ -55,7 +55,7 @@ fn tree_of(operand: Option<Operand>) -> Option<RawExpr>
     }
 }
 
-// What ends as this expression, where no frame is open.
+// A focus that ends as this expression if no frame is open.
 fn focus_on(found: Option<Operand>) -> Focus
     ensures { finish (state_of [] result) ≡ option_map operand_expr found }
 {
@@ -65,7 +65,7 @@ fn focus_on(found: Option<Operand>) -> Focus
     }
 }
 
-// The expression where all is read and no note and no type has begun.
+// The expression if all is read and no note and no type has begun.
 fn finished(alloc: Global, frames: &mut Frames, focus: Focus) -> Result<Option<RawExpr>, AllocError>
     ensures { IfOk result (λ o. option_map expr_syntax o ≡ finish (state_of (frames_of frames.old) focus)) }
 {
@@ -87,7 +87,8 @@ fn no_tree(focus: Focus) -> Option<RawExpr>
 // Whether an expression within the heights begins so.
 #[inline(always)]
 fn rated(frames: &Frames, focus: &Focus) -> Taken
-    ensures { result ≡ cond (nat_lt (whole_least (state_of (frames_of frames.now) focus.now)) (greatest_height + 1)) Taken.Goes Taken.High }
+    ensures { result ≡ cond
+        (nat_lt (whole_least (state_of (frames_of frames.now) focus.now)) (greatest_height + 1)) Taken.Goes Taken.High }
 {
     if is_low(frames, focus) {
         Taken::Goes
@@ -102,43 +103,51 @@ impl ExprReader {
         ensures start { expr_state result ≡ Need [] }
     {
         ExprReader {
-            frames: Frames::new(alloc),
-            focus: Focus::Wanted,
+            begun: Begun::new(alloc),
             inner: Inner::Nothing,
         }
     }
 
-    /// One token more, whose letters may be taken. A token that is refused is as it was but for its letters.
+    /// One token more. Goes if the tokens through it begin an expression within the heights. High if they begin
+    /// expressions, but none within the heights. Stops if they begin none, and then `finish` still answers for the
+    /// tokens before it. The letters of a token that goes on are taken from it, those of a token that is refused
+    /// perhaps, and no more. Fails only for want of memory.
+    ///
+    /// Source: the grammar of expressions in the F# specification, for the forms that this language has.
     pub fn take(&mut self, alloc: Global, token: &mut Token) -> Result<Taken, AllocError>
         requires low { whole_least (expr_state self.old) ≤ greatest_height }
-        ensures taken { IfOk result (λ t. Takes machine_of_expressions greatest_height (expr_state self.old) token.old t (expr_state self.new)) }
+        ensures taken { IfOk result
+            (λ t. Takes machine_of_expressions greatest_height (expr_state self.old) token.old t
+            (expr_state self.new)) }
         ensures kept { IfOk result (λ t. t ≡ Taken.Stops → (token.new ≡ token.old) ⊎ (token.new ≡ emptied token.old)) }
     {
         match &mut self.inner {
             Inner::Nothing => self.take_own(alloc, token),
             Inner::Note(_, _, note) => match note.take(alloc, token)? {
                 Taken::Goes => Ok(Taken::Goes),
-                Taken::Stops => self.take_behind(alloc, token),
+                Taken::Stops => self.take_refused(alloc, token),
                 Taken::High => Ok(Taken::High),
             },
             Inner::Type(_, ty) => match ty.take(alloc, token)? {
                 Taken::Goes => Ok(Taken::Goes),
-                Taken::Stops => self.take_behind(alloc, token),
+                Taken::Stops => self.take_refused(alloc, token),
                 Taken::High => Ok(Taken::High),
             },
         }
     }
 
-    // One token more, where no note and no type has begun. Names and numbers where an operand is wanted, and signs, names and
-    // reserved words behind an atom are most tokens of an expression, and go without what the others need.
+    // One token more, if no note and no type has begun. Most tokens of an expression are names and numbers where an
+    // operand is wanted, and signs, names and reserved words after an operand. They do without what the others need.
     #[inline(never)]
     fn take_own(&mut self, alloc: Global, token: &mut Token) -> Result<Taken, AllocError>
         requires nothing { self.old.inner ≡ Inner.Nothing }
-        requires low { whole_least (state_of (frames_of self.old.frames) self.old.focus) ≤ greatest_height }
-        ensures taken { IfOk result (λ t. Takes machine_of_expressions greatest_height (state_of (frames_of self.old.frames) self.old.focus) token.old t (expr_state self.new)) }
+        requires low { whole_least (begun_state self.old.begun) ≤ greatest_height }
+        ensures taken { IfOk result
+            (λ t. Takes machine_of_expressions greatest_height (begun_state self.old.begun) token.old t
+            (expr_state self.new)) }
         ensures rest { OnOk result (token.new ≡ emptied token.old) }
     {
-        match &self.focus {
+        match &self.begun.focus {
             Focus::Wanted => self.take_operand(alloc, token),
             Focus::Read(_) => self.take_after(alloc, token),
             Focus::Power(_) | Focus::Greater(_, _) | Focus::Inside(_) => {
@@ -151,9 +160,11 @@ impl ExprReader {
     #[inline(always)]
     fn take_operand(&mut self, alloc: Global, token: &mut Token) -> Result<Taken, AllocError>
         requires nothing { self.old.inner ≡ Inner.Nothing }
-        requires wanted { self.old.focus ≡ Focus.Wanted }
-        requires low { whole_least (Need (frames_of self.old.frames)) ≤ greatest_height }
-        ensures taken { IfOk result (λ t. Takes machine_of_expressions greatest_height (state_of (frames_of self.old.frames) self.old.focus) token.old t (expr_state self.new)) }
+        requires wanted { self.old.begun.focus ≡ Focus.Wanted }
+        requires low { whole_least (Need (open_in self.old.begun)) ≤ greatest_height }
+        ensures taken { IfOk result
+            (λ t. Takes machine_of_expressions greatest_height (begun_state self.old.begun) token.old t
+            (expr_state self.new)) }
         ensures rest { OnOk result (token.new ≡ emptied token.old) }
     {
         let at = token.start;
@@ -174,53 +185,51 @@ impl ExprReader {
     // An atom stands inside the frames. It needs as much height as an operand that is wanted.
     #[inline(always)]
     fn put_atom(&mut self, operand: Operand) -> Taken
+        requires nothing { self.old.inner ≡ Inner.Nothing }
         ensures goes { result ≡ Taken.Goes }
-        ensures state { expr_state self.new ≡ inner_state (frames_of self.old.frames) (Focus.Read operand) self.old.inner }
+        ensures state { expr_state self.new ≡ Have (open_in self.old.begun) (operand_expr operand) }
     {
-        self.focus.put(Focus::Read(operand));
+        self.begun.focus.put(Focus::Read(operand));
         Taken::Goes
     }
 
-    // One token behind an atom, which is moved out.
+    // One token after an operand, which is moved out.
     #[inline(always)]
     fn take_after(&mut self, alloc: Global, token: &mut Token) -> Result<Taken, AllocError>
         requires nothing { self.old.inner ≡ Inner.Nothing }
-        ensures taken { IfOk result (λ t. Takes machine_of_expressions greatest_height (state_of (frames_of self.old.frames) self.old.focus) token.old t (expr_state self.new)) }
+        ensures taken { IfOk result
+            (λ t. Takes machine_of_expressions greatest_height (begun_state self.old.begun) token.old t
+            (expr_state self.new)) }
         ensures rest { OnOk result (token.new ≡ emptied token.old) }
     {
-        match mem::replace(&mut self.focus, Focus::Wanted) {
-            Focus::Read(operand) => self.take_behind_atom(alloc, operand, token),
+        match mem::replace(&mut self.begun.focus, Focus::Wanted) {
+            Focus::Read(operand) => self.take_after_operand(alloc, operand, token),
             other => {
-                self.focus.put(other);
+                self.begun.focus.put(other);
                 self.take_any(alloc, token)
             }
         }
     }
 
-    // One token behind this atom.
+    // One token after this operand.
     #[inline(always)]
-    fn take_behind_atom(
+    fn take_after_operand(
         &mut self,
         alloc: Global,
         operand: Operand,
         token: &mut Token,
     ) -> Result<Taken, AllocError>
         requires nothing { self.old.inner ≡ Inner.Nothing }
-        ensures taken { IfOk result (λ t. Takes machine_of_expressions greatest_height (Have (frames_of self.old.frames) (operand_expr operand)) token.old t (expr_state self.new)) }
+        ensures taken { IfOk result
+            (λ t. Takes machine_of_expressions greatest_height
+            (Have (open_in self.old.begun) (operand_expr operand)) token.old t (expr_state self.new)) }
         ensures rest { OnOk result (token.new ≡ emptied token.old) }
     {
         let at = token.start;
         match &token.kind {
             Kind::Sign(symbol) => match plain_operator(*symbol) {
                 Some(sign) => {
-                    let given = infix_after(
-                        alloc,
-                        &mut self.frames,
-                        &mut self.focus,
-                        operand,
-                        sign,
-                        at,
-                    )?;
+                    let given = infix_after(alloc, &mut self.begun, operand, sign, at)?;
                     Ok(self.go(given))
                 }
                 None => self.take_mark(alloc, operand, token),
@@ -233,7 +242,7 @@ impl ExprReader {
         }
     }
 
-    // One token behind this atom, which is an argument if it is a name.
+    // One token after this operand: it is an argument if it is a name.
     #[inline(never)]
     fn take_name(
         &mut self,
@@ -242,28 +251,23 @@ impl ExprReader {
         token: &mut Token,
     ) -> Result<Taken, AllocError>
         requires nothing { self.old.inner ≡ Inner.Nothing }
-        ensures taken { IfOk result (λ t. Takes machine_of_expressions greatest_height (Have (frames_of self.old.frames) (operand_expr operand)) token.old t (expr_state self.new)) }
+        ensures taken { IfOk result
+            (λ t. Takes machine_of_expressions greatest_height
+            (Have (open_in self.old.begun) (operand_expr operand)) token.old t (expr_state self.new)) }
         ensures rest { OnOk result (token.new ≡ emptied token.old) }
     {
         let at = token.start;
         match &mut token.kind {
             Kind::Name(letters) => {
                 let name = name_of(letters.take(alloc));
-                let given = name_argument(
-                    alloc,
-                    &mut self.frames,
-                    &mut self.focus,
-                    operand,
-                    name,
-                    at,
-                )?;
+                let given = name_argument(alloc, &mut self.begun, operand, name, at)?;
                 Ok(self.go(given))
             }
             _ => self.take_again(alloc, operand, token),
         }
     }
 
-    // One token behind this atom, which ends forms if it is a reserved word.
+    // One token after this operand: it ends forms if it is a reserved word.
     #[inline(never)]
     fn take_word(
         &mut self,
@@ -272,19 +276,15 @@ impl ExprReader {
         token: &mut Token,
     ) -> Result<Taken, AllocError>
         requires nothing { self.old.inner ≡ Inner.Nothing }
-        ensures taken { IfOk result (λ t. Takes machine_of_expressions greatest_height (Have (frames_of self.old.frames) (operand_expr operand)) token.old t (expr_state self.new)) }
+        ensures taken { IfOk result
+            (λ t. Takes machine_of_expressions greatest_height
+            (Have (open_in self.old.begun) (operand_expr operand)) token.old t (expr_state self.new)) }
         ensures rest { OnOk result (token.new ≡ emptied token.old) }
     {
         match &token.kind {
             Kind::Word(keyword) => match plain_word(*keyword) {
                 Some(keyword) => {
-                    let given = end_by_word(
-                        alloc,
-                        &mut self.frames,
-                        &mut self.focus,
-                        operand,
-                        keyword,
-                    )?;
+                    let given = end_by_word(alloc, &mut self.begun, operand, keyword)?;
                     Ok(self.go(given))
                 }
                 None => self.take_again(alloc, operand, token),
@@ -293,7 +293,7 @@ impl ExprReader {
         }
     }
 
-    // One sign behind this atom, if it is one.
+    // One token after this operand: `<`, `)` and `;` are signs that end forms or begin a note.
     #[inline(never)]
     fn take_mark(
         &mut self,
@@ -302,46 +302,29 @@ impl ExprReader {
         token: &mut Token,
     ) -> Result<Taken, AllocError>
         requires nothing { self.old.inner ≡ Inner.Nothing }
-        ensures taken { IfOk result (λ t. Takes machine_of_expressions greatest_height (Have (frames_of self.old.frames) (operand_expr operand)) token.old t (expr_state self.new)) }
+        ensures taken { IfOk result
+            (λ t. Takes machine_of_expressions greatest_height
+            (Have (open_in self.old.begun) (operand_expr operand)) token.old t (expr_state self.new)) }
         ensures rest { OnOk result (token.new ≡ emptied token.old) }
     {
         match &token.kind {
             Kind::Sign(Symbol::Less) => {
-                let given = less_after(
-                    alloc,
-                    &mut self.frames,
-                    &mut self.focus,
-                    operand,
-                    token.start,
-                    token.glued,
-                )?;
+                let given = less_after(alloc, &mut self.begun, operand, token.start, token.glued)?;
                 Ok(self.go(given))
             }
             Kind::Sign(Symbol::RightParen) => {
-                let given = end_by_mark(
-                    alloc,
-                    &mut self.frames,
-                    &mut self.focus,
-                    operand,
-                    Symbol::RightParen,
-                )?;
+                let given = end_by_mark(alloc, &mut self.begun, operand, Symbol::RightParen)?;
                 Ok(self.go(given))
             }
             Kind::Sign(Symbol::Semicolon) => {
-                let given = end_by_mark(
-                    alloc,
-                    &mut self.frames,
-                    &mut self.focus,
-                    operand,
-                    Symbol::Semicolon,
-                )?;
+                let given = end_by_mark(alloc, &mut self.begun, operand, Symbol::Semicolon)?;
                 Ok(self.go(given))
             }
             _ => self.take_again(alloc, operand, token),
         }
     }
 
-    // One token behind this atom, whatever it is.
+    // One token after this operand, whatever it is.
     #[inline(never)]
     fn take_again(
         &mut self,
@@ -350,29 +333,35 @@ impl ExprReader {
         token: &mut Token,
     ) -> Result<Taken, AllocError>
         requires nothing { self.old.inner ≡ Inner.Nothing }
-        ensures taken { IfOk result (λ t. Takes machine_of_expressions greatest_height (Have (frames_of self.old.frames) (operand_expr operand)) token.old t (expr_state self.new)) }
+        ensures taken { IfOk result
+            (λ t. Takes machine_of_expressions greatest_height
+            (Have (open_in self.old.begun) (operand_expr operand)) token.old t (expr_state self.new)) }
         ensures rest { OnOk result (token.new ≡ emptied token.old) }
     {
-        self.focus.put(Focus::Read(operand));
+        self.begun.focus.put(Focus::Read(operand));
         self.take_any(alloc, token)
     }
 
-    // One token more, whatever it is, where no note and no type has begun.
+    // One token more, whatever it is, if no note and no type has begun.
     #[inline(never)]
     fn take_any(&mut self, alloc: Global, token: &mut Token) -> Result<Taken, AllocError>
         requires nothing { self.old.inner ≡ Inner.Nothing }
-        ensures taken { IfOk result (λ t. Takes machine_of_expressions greatest_height (state_of (frames_of self.old.frames) self.old.focus) token.old t (expr_state self.new)) }
+        ensures taken { IfOk result
+            (λ t. Takes machine_of_expressions greatest_height (begun_state self.old.begun) token.old t
+            (expr_state self.new)) }
         ensures rest { OnOk result (token.new ≡ emptied token.old) }
     {
-        let given = step(alloc, &mut self.frames, &mut self.focus, token)?;
+        let given = step(alloc, &mut self.begun, token)?;
         Ok(self.go(given))
     }
 
     // The token that the note or the type has refused, if one has begun.
     #[inline(never)]
-    fn take_behind(&mut self, alloc: Global, token: &mut Token) -> Result<Taken, AllocError>
+    fn take_refused(&mut self, alloc: Global, token: &mut Token) -> Result<Taken, AllocError>
         requires low { IsLow (expr_state self.old) }
-        ensures taken { IfOk result (λ t. Gives machine_of_expressions greatest_height (expr_state self.old) (own_step (expr_state self.old) token.old) t (expr_state self.new)) }
+        ensures taken { IfOk result
+            (λ t. Gives machine_of_expressions greatest_height (expr_state self.old)
+            (own_step (expr_state self.old) token.old) t (expr_state self.new)) }
         ensures rest { OnOk result (token.new ≡ emptied token.old) }
     {
         match &mut self.inner {
@@ -391,7 +380,7 @@ impl ExprReader {
         }
     }
 
-    // The token that the note of a number has refused, which is this where all is read.
+    // The token that the note of a number has refused, with what was read of the note, if that is whole.
     fn end_note(
         &mut self,
         alloc: Global,
@@ -401,16 +390,18 @@ impl ExprReader {
         token: &mut Token,
     ) -> Result<Taken, AllocError>
         requires low { IfSome found (λ n. note_height (note_syntax n) ≤ greatest_height) }
-        ensures taken { (s : NoteState) → option_map note_syntax found ≡ note_finish s → IfOk result (λ t. Gives machine_of_expressions greatest_height (InNote (frames_of self.old.frames) at value s) (own_step (InNote (frames_of self.old.frames) at value s) token.old) t (expr_state self.new)) }
+        ensures taken { (s : NoteState) → option_map note_syntax found ≡ note_finish s → IfOk result
+            (λ t. Gives machine_of_expressions greatest_height (InNote (open_in self.old.begun) at value s)
+            (own_step (InNote (open_in self.old.begun) at value s) token.old) t (expr_state self.new)) }
         ensures rest { OnOk result (token.new ≡ emptied token.old) }
     {
         self.end_inner();
         let kind = ExprToken::of_kind(alloc, &mut token.kind);
-        let given = note_ends(alloc, &self.frames, &mut self.focus, at, value, found, kind)?;
+        let given = note_ends(alloc, &mut self.begun, at, value, found, kind)?;
         Ok(self.go(given))
     }
 
-    // The token that the type of an empty list has refused, which is this where all is read.
+    // The token that the type of an empty list has refused, with what was read of the type, if that is whole.
     fn end_type(
         &mut self,
         alloc: Global,
@@ -419,21 +410,22 @@ impl ExprReader {
         token: &mut Token,
     ) -> Result<Taken, AllocError>
         requires low { IfSome found (λ t. whole_height (type_syntax t) ≤ greatest_height) }
-        ensures taken { (s : TypeState) → option_map type_syntax found ≡ type_finish s → IfOk result (λ t. Gives machine_of_expressions greatest_height (InType (frames_of self.old.frames) at s) (own_step (InType (frames_of self.old.frames) at s) token.old) t (expr_state self.new)) }
+        ensures taken { (s : TypeState) → option_map type_syntax found ≡ type_finish s → IfOk result
+            (λ t. Gives machine_of_expressions greatest_height (InType (open_in self.old.begun) at s)
+            (own_step (InType (open_in self.old.begun) at s) token.old) t (expr_state self.new)) }
         ensures rest { OnOk result (token.new ≡ emptied token.old) }
     {
         self.end_inner();
         let kind = ExprToken::of_kind(alloc, &mut token.kind);
-        let given = type_ends(alloc, &self.frames, &mut self.focus, at, found, kind)?;
+        let given = type_ends(alloc, &mut self.begun, at, found, kind)?;
         Ok(self.go(given))
     }
 
-    // No note and no type is read. Of a note that was begun anew there is nothing to let go.
+    // No note and no type is read any more. A note that was begun anew holds nothing that has to be let go.
     #[inline(always)]
     fn end_inner(&mut self)
         ensures inner { self.new.inner ≡ Inner.Nothing }
-        ensures frames { self.new.frames ≡ self.old.frames }
-        ensures focus { self.new.focus ≡ self.old.focus }
+        ensures begun { self.new.begun ≡ self.old.begun }
     {
         match &mut self.inner {
             Inner::Nothing => {}
@@ -445,26 +437,26 @@ impl ExprReader {
         }
     }
 
-    // What a step gives.
+    // What a step gives is done in the reader.
     #[inline(always)]
     fn go(&mut self, given: Step) -> Taken
         requires nothing { self.old.inner ≡ Inner.Nothing }
-        ensures { (old next : State) → Simulates (finish old) (frames_of self.old.frames) self.old.focus given next → Gives machine_of_expressions greatest_height old next result (expr_state self.new) }
+        ensures { (old next : State) → Simulates (finish old) self.old.begun given next
+            → Gives machine_of_expressions greatest_height old next result (expr_state self.new) }
     {
         match given {
-            Step::Goes => rated(&self.frames, &self.focus),
+            Step::Goes => rated(&self.begun.frames, &self.begun.focus),
             Step::Note(at, value) => self.begin_note(at, value),
             Step::Type(at) => self.begin_type(at),
             Step::Stops(found) => self.stop(found),
         }
     }
 
-    // What is read inside the focus. Where nothing was, there is nothing to let go.
+    // From now on this is read inside the focus. If nothing was, there is nothing to let go.
     #[inline(always)]
     fn put_inner(&mut self, inner: Inner)
         ensures inner { self.new.inner ≡ inner }
-        ensures frames { self.new.frames ≡ self.old.frames }
-        ensures focus { self.new.focus ≡ self.old.focus }
+        ensures begun { self.new.begun ≡ self.old.begun }
     {
         match &self.inner {
             Inner::Nothing => mem::forget(mem::replace(&mut self.inner, inner)),
@@ -472,25 +464,29 @@ impl ExprReader {
         }
     }
 
-    // The note of a number begins. It needs as much height as an operand that is wanted. The number stays in focus, for its box.
+    // The note of a number begins. It needs as much height as an operand that is wanted. The number stays in focus,
+    // because its box is used again.
     #[inline(never)]
     fn begin_note(&mut self, at: u32, value: Frac) -> Taken
-        ensures state { expr_state self.new ≡ InNote (frames_of self.old.frames) at value NeedNote }
-        ensures low { result ≡ cond (nat_lt (whole_least (Need (frames_of self.old.frames))) (greatest_height + 1)) Taken.Goes Taken.High }
+        ensures state { expr_state self.new ≡ InNote (open_in self.old.begun) at value NeedNote }
+        ensures low { result ≡ cond
+            (nat_lt (whole_least (Need (open_in self.old.begun))) (greatest_height + 1)) Taken.Goes Taken.High }
     {
         self.put_inner(Inner::Note(at, value, NoteReader::new()));
-        rated(&self.frames, &Focus::Wanted)
+        rated(&self.begun.frames, &Focus::Wanted)
     }
 
     // The type of an empty list begins. It needs as much height as the colon before it.
     #[inline(never)]
     fn begin_type(&mut self, at: u32) -> Taken
-        ensures state { expr_state self.new ≡ InType (frames_of self.old.frames) at (NeedType 0) }
-        ensures low { result ≡ cond (nat_lt (whole_least (Inside (frames_of self.old.frames) (NilColon at))) (greatest_height + 1)) Taken.Goes Taken.High }
+        ensures state { expr_state self.new ≡ InType (open_in self.old.begun) at (NeedType 0) }
+        ensures low { result ≡ cond
+            (nat_lt (whole_least (Inside (open_in self.old.begun) (NilColon at)))
+            (greatest_height + 1)) Taken.Goes Taken.High }
     {
         self.put_inner(Inner::Type(at, TypeReader::new()));
-        self.focus.put(Focus::Inside(Expected::NilColon(at)));
-        rated(&self.frames, &self.focus)
+        self.begun.focus.put(Focus::Inside(Expected::NilColon(at)));
+        rated(&self.begun.frames, &self.begun.focus)
     }
 
     // The expression stops, and this is what was read.
@@ -500,34 +496,34 @@ impl ExprReader {
         ensures stops { result ≡ Taken.Stops }
         ensures found { finish (expr_state self.new) ≡ option_map operand_expr found }
     {
-        self.frames.clear();
-        self.focus.put(focus_on(found));
+        self.begun.frames.clear();
+        self.begun.focus.put(focus_on(found));
         Taken::Stops
     }
 
-    /// An expression begins, whatever was read. The room of the open frames is kept.
+    /// Another expression begins, whatever was read. The room of the open frames is kept.
     pub fn restart(&mut self)
         ensures start { expr_state self.new ≡ Need [] }
     {
         self.end_inner();
-        self.frames.clear();
-        self.focus.put(Focus::Wanted);
+        self.begun.frames.clear();
+        self.begun.focus.put(Focus::Wanted);
     }
 
-    /// The expression where all is read, if it is one, taken out of the reader.
+    /// The expression of the tokens that were taken, if they are one, out of the reader. Fails only for want of memory.
     pub fn take_whole(&mut self, alloc: Global) -> Result<Option<RawExpr>, AllocError>
         ensures found { IfOk result (λ o. option_map expr_syntax o ≡ finish (expr_state self.old)) }
     {
         match &self.inner {
             Inner::Nothing => {
-                let focus = mem::replace(&mut self.focus, Focus::Wanted);
-                finished(alloc, &mut self.frames, focus)
+                let focus = mem::replace(&mut self.begun.focus, Focus::Wanted);
+                finished(alloc, &mut self.begun.frames, focus)
             }
             Inner::Note(_, _, _) | Inner::Type(_, _) => Ok(None),
         }
     }
 
-    /// The expression where all is read, if it is one.
+    /// The expression of the tokens that were taken, if they are one. Fails only for want of memory.
     pub fn finish(self, alloc: Global) -> Result<Option<RawExpr>, AllocError>
         ensures found { IfOk result (λ o. option_map expr_syntax o ≡ finish (expr_state self)) }
     {

@@ -11,8 +11,8 @@ enum Storage {
     Heap(Box<Vec<u8>>),
 }
 
-/// A list of bytes. At most 16 lie in the value itself, more on the heap, behind a box: so the value is no larger than
-/// a vector.
+/// A list of bytes. At most 16 lie in the value itself, and more lie on the heap, in a box, so the value is no larger
+/// than a vector.
 #[derive(Drop)]
 pub struct InlineBytes {
     storage: Storage,
@@ -38,7 +38,7 @@ impl InlineBytes {
         }
     }
 
-    /// The bytes of a slice, copied. Takes no memory where there are at most 16.
+    /// The bytes of a slice, copied. Takes no memory if there are at most 16.
     pub fn from_slice(alloc: Global, slice: &[u8]) -> Result<InlineBytes, AllocError>
         ensures bytes { IfOk result (λ bytes. bytes ≡ slice.now) }
         ensures short { length slice.now ≤ 16 → IsOk result }

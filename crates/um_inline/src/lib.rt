@@ -1,4 +1,4 @@
-//! Lists of bytes that need no memory where they are short.
+//! Lists of bytes that need no memory if they are short.
 //!
 //! ```
 //! let name = InlineBytes::from_slice(alloc, b"speed")?; // takes no memory

@@ -1,4 +1,4 @@
--- An expression that has begun: what is open around the next operand, what is at focus, and what is left where the
+-- An expression that has begun: what is open around the next operand, what is in focus, and what is left once the
 -- frames that need no token end.
 -- Source: operator precedence with a stack, as in Knuth, Fundamental Algorithms, 2.2.1; this project's own states.
 use Rattle.std.specs.Prelude.{ℕ, ℤ, Bool, true, false, cond, nat_lt, List, [], ◌∷◌, ◌++◌, Option, Some, None}
@@ -17,23 +17,23 @@ pub data Frame : Type 0 where
   InItem : (at : ℕ) (before : List ExprSyntax) → Frame
   -- `{`, these fields, and a field's name with its `=`
   InField : (at : ℕ) (before : List FieldPart) (place : ℕ) (name : List ℕ) → Frame
-  -- behind `=`; behind `in`
+  -- after `=`; after `in`
   InValue : (at : ℕ) (x : BinderSyntax) → Frame
   InBody : (at : ℕ) (x : BinderSyntax) (value : ExprSyntax) → Frame
-  -- behind `if`; `then`; `else`
+  -- after `if`; `then`; `else`
   InTest : (at : ℕ) → Frame
   InThen : (at : ℕ) (test : ExprSyntax) → Frame
   InElse : (at : ℕ) (test one : ExprSyntax) → Frame
-  -- behind `match`; the first `->`; the second
+  -- after `match`; the first `->`; the second
   InMatched : (at : ℕ) → Frame
   InEmptyArm : (at : ℕ) (list : ExprSyntax) → Frame
   InFullArm : (at : ℕ) (list empty : ExprSyntax) (head tail : BinderSyntax) → Frame
   InNegate : (at : ℕ) → Frame
   InNot : (at : ℕ) → Frame
-  -- behind `pown`: its power ends it
+  -- after `pown`: its power ends it
   InPown : (at : ℕ) → Frame
   InRight : (at : ℕ) (sign : Infix) (left : ExprSyntax) → Frame
-  -- behind a name and these arguments
+  -- after a name and these arguments
   InArgument : (at : ℕ) (function : List ℕ) (before : List ExprSyntax) → Frame
 
 -- the rank of what stands in the frame lies below this
@@ -89,27 +89,27 @@ with_field before place x t = before ++ named_part place x t ∷ []
 
 -- a place inside a run of tokens that is fixed
 pub data Expected : Type 0 where
-  -- behind `let`; behind its binder
+  -- after `let`; after its binder
   LetBinder : (at : ℕ) → Expected
   LetEqual : (at : ℕ) (x : BinderSyntax) → Expected
-  -- behind `{` or `;` and these fields; behind the name
+  -- after `{` or `;` and these fields; after the name
   FieldName : (at : ℕ) (before : List FieldPart) → Expected
   FieldEqual : (at : ℕ) (before : List FieldPart) (place : ℕ) (name : List ℕ) → Expected
-  -- behind `.`
+  -- after `.`
   DotName : (at : ℕ) (e : ExprSyntax) → Expected
-  -- behind `with`; its bar; `[`; `]`
+  -- after `with`; its bar; `[`; `]`
   ArmBegin : (at : ℕ) (list : ExprSyntax) → Expected
   ArmOpen : (at : ℕ) (list : ExprSyntax) → Expected
   ArmClose : (at : ℕ) (list : ExprSyntax) → Expected
   ArmArrow : (at : ℕ) (list : ExprSyntax) → Expected
-  -- behind the bar of the full arm; the head; `::`; the tail
+  -- after the bar of the full arm; the head; `::`; the tail
   HeadBinder : (at : ℕ) (list empty : ExprSyntax) → Expected
   HeadCons : (at : ℕ) (list empty : ExprSyntax) (head : BinderSyntax) → Expected
   TailBinder : (at : ℕ) (list empty : ExprSyntax) (head : BinderSyntax) → Expected
   TailArrow : (at : ℕ) (list empty : ExprSyntax) (head tail : BinderSyntax) → Expected
-  -- behind `(` `[` `]`
+  -- after `(` `[` `]`
   NilColon : (at : ℕ) → Expected
-  -- behind `pown`, its part and `(`; `-`; the power, which is this
+  -- after `pown`, its part and `(`; `-`; the power, which is this
   PownMinus : (at : ℕ) (e : ExprSyntax) → Expected
   PownDigits : (at : ℕ) (e : ExprSyntax) → Expected
   PownClose : (at : ℕ) (e : ExprSyntax) (k : ℤ) → Expected
@@ -117,11 +117,11 @@ pub data Expected : Type 0 where
 pub data State : Type 0 where
   -- an operand is wanted
   Need : (frames : List Frame) → State
-  -- an atom is at focus, or a whole power in brackets
+  -- an atom is in focus, or a whole power in brackets
   Have : (frames : List Frame) (operand : ExprSyntax) → State
-  -- a whole power is at focus: a `<` directly behind its number would open a unit, and it has none
+  -- a whole power is in focus: a `<` directly after its number would open a unit, and it has none
   HavePower : (frames : List Frame) (operand : ExprSyntax) → State
-  -- behind `>`: a `=` directly behind it belongs to the sign
+  -- after `>`: a `=` directly after it belongs to the sign
   Greater : (frames : List Frame) (at : ℕ) (left : ExprSyntax) → State
   Inside : (frames : List Frame) (expected : Expected) → State
   -- in the note of a number; in the type of an empty list
@@ -129,13 +129,13 @@ pub data State : Type 0 where
   InType : (frames : List Frame) (at : ℕ) (type_state : TypeState) → State
   Refused : State
 
--- what is left open where all frames up to this rank end
+-- what is left open once all frames up to this rank end
 abbrev pub reduce : ℕ → List Frame → ExprSyntax → State
 reduce limit [] t = Have [] t
 reduce limit (frame ∷ frames) t =
     cond (nat_lt limit (own_rank frame)) (Have (frame ∷ frames) t) (reduce limit frames (plug frame t))
 
--- the expression where all is read
+-- the expression, if all is read
 abbrev pub whole : State → Option ExprSyntax
 whole (Have [] t) = Some t
 whole _ = None

@@ -24,8 +24,8 @@ view_frame (open_at.InThen at c) = InThen at (operand_expr c)
 view_frame (open_at.InElse at c a) = InElse at (operand_expr c) (operand_expr a)
 view_frame (open_at.InMatched at) = InMatched at
 view_frame (open_at.InEmptyArm at l) = InEmptyArm at (operand_expr l)
-view_frame (open_at.InFullArm at l a x y) =
-    InFullArm at (operand_expr l) (operand_expr a) (binder_syntax x.value) (binder_syntax y.value)
+view_frame (open_at.InFullArm m x y) =
+    InFullArm m.at (operand_expr m.list) (operand_expr m.empty) (binder_syntax x.value) (binder_syntax y.value)
 view_frame (open_at.InNegate at) = InNegate at
 view_frame (open_at.InNot at) = InNot at
 view_frame (open_at.InPown at) = InPown at
@@ -67,7 +67,7 @@ abbrev pub Ended : ℕ → List Frame → Option Open → List Frame → Type 0
 Ended limit old None new = (new ≡ old) × (nat_lt limit (top_rank old) ≡ true)
 Ended limit old (Some frame) new = (old ≡ view_frame frame ∷ new) × (nat_lt limit (own_rank (view_frame frame)) ≡ false)
 
--- the expression that is whole where nothing is open behind it
+-- the operand as the whole expression, if no frame is open around it
 abbrev pub left_over : Option Open → ExprSyntax → Option ExprSyntax
 left_over None t = Some t
 left_over (Some frame) t = None

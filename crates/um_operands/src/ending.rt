@@ -23,7 +23,7 @@ fn pop_ended(frames: &mut Frames, limit: u8) -> Option<Frame>
     }
 }
 
-// Ends all frames up to this rank, one by one.
+// Ends all frames up to this rank, one after the other.
 #[inline(always)]
 fn end_frames(
     alloc: Global,
@@ -32,7 +32,8 @@ fn end_frames(
     operand: Operand,
 ) -> Result<Operand, AllocError>
     requires { limit < 10 }
-    ensures { IfOk result (λ t. Have (frames_of frames.new) (operand_expr t) ≡ reduce limit (frames_of frames.old) (operand_expr operand)) }
+    ensures { IfOk result (λ t. Have (frames_of frames.new) (operand_expr t)
+        ≡ reduce limit (frames_of frames.old) (operand_expr operand)) }
 {
     let mut operand = operand;
     while let Some(frame) = pop_ended(frames, limit) {
@@ -41,7 +42,8 @@ fn end_frames(
     Ok(operand)
 }
 
-/// Ends all frames up to this rank.
+/// Ends the innermost frames up to this rank, of those that need no token to end, and gives what stands in the frames
+/// that are left.
 #[inline(never)]
 pub fn ended(
     alloc: Global,
@@ -50,7 +52,8 @@ pub fn ended(
     operand: Operand,
 ) -> Result<Operand, AllocError>
     requires { limit < 10 }
-    ensures { IfOk result (λ t. Have (frames_of frames.new) (operand_expr t) ≡ reduce limit (frames_of frames.old) (operand_expr operand)) }
+    ensures { IfOk result (λ t. Have (frames_of frames.new) (operand_expr t)
+        ≡ reduce limit (frames_of frames.old) (operand_expr operand)) }
 {
     if limit < frames.rank() {
         Ok(operand)
@@ -59,7 +62,7 @@ pub fn ended(
     }
 }
 
-/// The expression that is whole where nothing is open behind it.
+/// The operand as the whole expression, if no frame is open around it.
 pub fn left_over(outer: Option<Frame>, operand: Operand) -> Option<Operand>
     ensures { option_map operand_expr result ≡ left_over outer (operand_expr operand) }
 {
@@ -77,13 +80,14 @@ fn nothing_left(frame: Frame, operand: Operand) -> Option<Operand>
     None
 }
 
-/// The expression where all is read behind an atom.
+/// The expression if all is read after this operand.
 pub fn whole(
     alloc: Global,
     frames: &mut Frames,
     operand: Operand,
 ) -> Result<Option<Operand>, AllocError>
-    ensures { IfOk result (λ o. option_map operand_expr o ≡ finish (Have (frames_of frames.old) (operand_expr operand))) }
+    ensures { IfOk result (λ o. option_map operand_expr o
+        ≡ finish (Have (frames_of frames.old) (operand_expr operand))) }
 {
     let inner = ended(alloc, frames, 9, operand)?;
     Ok(left_over(frames.pop(), inner))

@@ -8,13 +8,14 @@ ghost use Rattle.um_operands.specs.ExprOperands.{operand_expr, operand_exprs};
 ghost use Rattle.um_operands.specs.ExprFrames.{view_frame, is_call};
 
 use crate::infix::Infix;
+use crate::matching::Matching;
 use crate::operand::Operand;
 use crate::operands::{Operands, ReadFields};
 use std::alloc::{AllocError, Global};
 use um_tree::{Binder, Name, RawExpr};
 use um_types::higher;
 
-/// A form that has begun, up to the operand that is read next. The first number of each is its place.
+/// A form that has begun, up to the operand that is read next. The first number of each variant is its place.
 #[derive(Drop)]
 pub enum Frame {
     InBracket(u32),
@@ -22,28 +23,27 @@ pub enum Frame {
     InItem(u32, Operands),
     /// `{`, these fields, and a field's name, at its place, with its `=`
     InField(u32, ReadFields, u32, Name),
-    /// Behind `=`; behind `in`
+    /// After `=`; after `in`
     InValue(u32, Binder),
     InBody(u32, Binder, Operand),
-    /// Behind `if`; `then`; `else`
+    /// After `if`; `then`; `else`
     InTest(u32),
     InThen(u32, Operand),
     InElse(u32, Operand, Operand),
-    /// Behind `match`; the first `->`; the second
+    /// After `match`; the first `->`; the second
     InMatched(u32),
     InEmptyArm(u32, Operand),
-    InFullArm(u32, Operand, Operand, Box<Binder>, Box<Binder>),
+    InFullArm(Matching, Box<Binder>, Box<Binder>),
     InNegate(u32),
     InNot(u32),
-    /// Behind `pown`: its power ends it
+    /// After `pown`: its power ends it
     InPown(u32),
     InRight(u32, Infix, Operand),
-    /// Behind a name and these arguments, with the box that the name stood in, for the call
+    /// After a name and these arguments, with the box that the name stood in, which the call takes
     InArgument(u32, Name, Operands, Box<RawExpr>),
 }
 
-/// An open frame, and the least height that the parts in it and in the frames around it ask for,
-/// counted.
+/// An open frame, and the least height that the parts in it and in the frames around it ask for, counted.
 #[derive(Drop)]
 pub struct Entry {
     pub frame: Frame,
@@ -70,7 +70,7 @@ fn call(
     }
 }
 
-// What is whole without the frame.
+// The operand alone, without the frame.
 fn unframed(frame: Frame, last: Operand) -> Operand
     ensures { result ≡ last }
 {
@@ -92,7 +92,7 @@ impl Frame {
         }
     }
 
-    /// The rank of what it becomes if no token ends it; else 10.
+    /// The rank of what it becomes if no token ends it; otherwise 10.
     #[inline(always)]
     pub fn own_rank(&self) -> u8
         ensures { result ≡ own_rank (view_frame self.now) }
@@ -100,7 +100,7 @@ impl Frame {
         match self {
             Frame::InBody(_, _, _) => 9,
             Frame::InElse(_, _, _) => 9,
-            Frame::InFullArm(_, _, _, _, _) => 9,
+            Frame::InFullArm(_, _, _) => 9,
             Frame::InNegate(_) => 2,
             Frame::InNot(_) => 1,
             Frame::InRight(_, sign, _) => sign.rank(),
@@ -145,7 +145,9 @@ impl Frame {
             Frame::InElse(_, test, one) => higher(test.height, one.height),
             Frame::InMatched(_) => 1,
             Frame::InEmptyArm(_, list) => higher(list.height, 1),
-            Frame::InFullArm(_, list, empty, _, _) => higher(list.height, empty.height),
+            Frame::InFullArm(matching, _, _) => {
+                higher(matching.list.height, matching.empty.height)
+            }
             Frame::InNegate(_) => 0,
             Frame::InNot(_) => 0,
             Frame::InPown(_) => 0,
@@ -154,7 +156,7 @@ impl Frame {
         }
     }
 
-    /// What it is with its last part, where no token ends it.
+    /// What it is with its last part, if no token ends it.
     #[inline(always)]
     pub fn plug(self, alloc: Global, last: Operand) -> Result<Operand, AllocError>
         ensures { IfOk result (λ p. operand_expr p ≡ plug (view_frame self) (operand_expr last)) }
@@ -165,7 +167,7 @@ impl Frame {
         }
     }
 
-    // The same, for the forms that are rarer than a sign between two operands.
+    // The same for the forms that are rarer than a sign between two operands.
     #[inline(never)]
     fn plug_form(self, alloc: Global, last: Operand) -> Result<Operand, AllocError>
         ensures { IfOk result (λ p. operand_expr p ≡ plug (view_frame self) (operand_expr last)) }
@@ -173,10 +175,7 @@ impl Frame {
         match self {
             Frame::InBody(at, x, value) => value.bound(alloc, at, x, last),
             Frame::InElse(at, test, one) => test.choice(alloc, at, one, last),
-            Frame::InFullArm(at, list, empty, head, tail) => {
-                let head = Box::into_inner(head);
-                list.matched(alloc, at, empty, head, Box::into_inner(tail), last)
-            }
+            Frame::InFullArm(matching, head, tail) => matching.whole(alloc, head, tail, last),
             Frame::InNegate(at) => last.negate(alloc, at),
             Frame::InNot(at) => last.not(alloc, at),
             Frame::InRight(at, sign, left) => left.infix(alloc, at, sign, last),

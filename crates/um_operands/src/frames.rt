@@ -1,4 +1,4 @@
-// The open frames, each with the least height that it and those around it ask for.
+// The open frames, each with the least height that it and the frames around it ask for.
 ghost use Rattle.std.specs.Prelude.{◌≡◌, ◌<◌, ◌∷◌, [], IfSome, OnOk, length, map, reverse, vec_len};
 ghost use Rattle.um_types.specs.UnitCount.{counted};
 ghost use Rattle.um_operands.specs.ExprBegun.{top_bound, top_rank};
@@ -68,7 +68,7 @@ impl Frames {
         }
     }
 
-    /// The rank of what the innermost frame becomes if no token ends it; else 10.
+    /// The rank of what the innermost frame becomes if no token ends it; otherwise 10.
     #[inline(always)]
     pub fn rank(&self) -> u8
         ensures { result ≡ top_rank (frames_of self.now) }

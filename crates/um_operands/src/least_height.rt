@@ -11,21 +11,23 @@ ghost use Rattle.um_operands.specs.ExprFocus.{view_expected, focus_height, state
 use crate::focus::{Expected, Focus};
 use crate::frames::Frames;
 use crate::height::counted_sum;
+use crate::matching::Matching;
 use crate::operand::Operand;
 use um_types::{TOO_HIGH, higher, one_higher};
 
-// One above what is at hand, and above a part that is missing.
-fn above(list: &Operand) -> u32
-    ensures { result ≡ counted (max (expr_height (operand_expr list.now)) 1 + 1) }
+// One above this part, and above a part that is missing.
+fn above(part: &Operand) -> u32
+    ensures { result ≡ counted (max (expr_height (operand_expr part.now)) 1 + 1) }
 {
-    one_higher(higher(list.height, 1))
+    one_higher(higher(part.height, 1))
 }
 
-// One above both parts, and above a part that is missing.
-fn above_both(list: &Operand, empty: &Operand) -> u32
-    ensures { result ≡ counted (max (expr_height (operand_expr list.now)) (max (expr_height (operand_expr empty.now)) 1) + 1) }
+// One above both parts of a `match`, and above a part that is missing.
+fn above_both(matching: &Matching) -> u32
+    ensures { result ≡ counted (max (expr_height (operand_expr matching.now.list))
+        (max (expr_height (operand_expr matching.now.empty)) 1) + 1) }
 {
-    one_higher(higher(list.height, higher(empty.height, 1)))
+    one_higher(higher(matching.list.height, higher(matching.empty.height, 1)))
 }
 
 #[inline(never)]
@@ -42,10 +44,10 @@ fn expected_height(place: &Expected) -> u32
         Expected::ArmOpen(_, list) => above(list),
         Expected::ArmClose(_, list) => above(list),
         Expected::ArmArrow(_, list) => above(list),
-        Expected::HeadBinder(_, list, empty) => above_both(list, empty),
-        Expected::HeadCons(_, list, empty, _) => above_both(list, empty),
-        Expected::TailBinder(_, list, empty, _) => above_both(list, empty),
-        Expected::TailArrow(_, list, empty, _, _) => above_both(list, empty),
+        Expected::HeadBinder(matching) => above_both(matching),
+        Expected::HeadCons(matching, _) => above_both(matching),
+        Expected::TailBinder(matching, _) => above_both(matching),
+        Expected::TailArrow(matching, _, _) => above_both(matching),
         Expected::NilColon(_) => 3,
         Expected::PownMinus(_, operand) => one_higher(operand.height),
         Expected::PownDigits(_, operand) => one_higher(operand.height),
@@ -69,7 +71,8 @@ fn focus_height(focus: &Focus) -> u32
 /// Whether an expression within the heights begins with what was read.
 #[inline(always)]
 pub fn is_low(frames: &Frames, focus: &Focus) -> bool
-    ensures { result ≡ nat_lt (whole_least (state_of (frames_of frames.now) focus.now)) (greatest_height + 1) }
+    ensures { result
+        ≡ nat_lt (whole_least (state_of (frames_of frames.now) focus.now)) (greatest_height + 1) }
 {
     let height = counted_sum(focus_height(focus), frames.count());
     higher(frames.least(), height) < TOO_HIGH

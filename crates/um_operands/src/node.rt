@@ -1,4 +1,4 @@
-// The nodes of expressions that no token behind them makes more of.
+// The nodes of expressions that no token after them makes more of.
 
 /// All but a name, a number and a whole power, as one pattern.
 #[macro_export]

@@ -1,6 +1,8 @@
 // Expressions with their heights beside them, so that no height is counted again.
 ghost use Rattle.std.specs.Prelude.{◌≡◌, ◌≤◌, IfOk, None, Some};
-ghost use Rattle.um_tree.specs.RawTree.{expr_syntax, binder_syntax, type_syntax, written_note, truth_syntax, number_syntax, name_syntax, negate_syntax, not_syntax, pown_syntax, if_syntax, let_syntax, match_syntax, nil_syntax, field_syntax, bracket_expr_syntax};
+ghost use Rattle.um_tree.specs.RawTree.{expr_syntax, binder_syntax, type_syntax, written_note, truth_syntax};
+ghost use Rattle.um_tree.specs.RawTree.{number_syntax, name_syntax, negate_syntax, not_syntax, pown_syntax, if_syntax};
+ghost use Rattle.um_tree.specs.RawTree.{let_syntax, nil_syntax, field_syntax, bracket_expr_syntax};
 ghost use Rattle.um_tree.specs.Heights.{expr_height};
 ghost use Rattle.um_types.specs.TypeHeights.{whole_height};
 ghost use Rattle.um_types.specs.UnitCount.{counted};
@@ -16,8 +18,8 @@ use um_frac::Frac;
 use um_tree::{Binder, Name, RawExpr, RawNode, RawNote, RawType};
 use um_types::{higher, one_higher};
 
-/// An expression and its height, counted. No unit text or type text in it is too high. The tree is in a box, as the node
-/// around it holds it: an operand is handed on at little cost.
+/// An expression and its height, counted. No unit text or type text in it is too high. The tree stands in a box, as the
+/// node around it holds it, so an operand is handed on at little cost.
 #[derive(Drop)]
 pub struct Operand {
     pub tree: Box<RawExpr>,
@@ -30,7 +32,7 @@ impl Operand {
     ghost use Rattle.um_operands.specs.ExprKinds.{is_name, is_plain_number, is_power};
     ghost use Rattle.um_operands.specs.ExprOperands.{operand_expr};
 
-    /// The tree, whose height is this, counted
+    /// The operand of a tree whose height is this, counted
     pub fn of_tree(alloc: Global, tree: RawExpr, height: u32) -> Result<Operand, AllocError>
         requires exact { height ≡ counted (expr_height (expr_syntax tree)) }
         requires low { notes_in (expr_syntax tree) ≤ greatest_height }
@@ -40,7 +42,7 @@ impl Operand {
         Ok(Operand { tree, height })
     }
 
-    /// The same, in a box whose own tree was used up. A number and a truth value hold nothing that has to be let go.
+    /// The same in a box whose own tree was used up. A number and a truth value hold nothing that has to be let go.
     pub fn in_room(room: Box<RawExpr>, tree: RawExpr, height: u32) -> Operand
         requires exact { height ≡ counted (expr_height (expr_syntax tree)) }
         requires low { notes_in (expr_syntax tree) ≤ greatest_height }
@@ -155,7 +157,8 @@ impl Operand {
         sign: Infix,
         right: Operand,
     ) -> Result<Operand, AllocError>
-        ensures { IfOk result (λ p. operand_expr p ≡ infix_text at sign (operand_expr self) (operand_expr right)) }
+        ensures { IfOk result (λ p. operand_expr p
+            ≡ infix_text at sign (operand_expr self) (operand_expr right)) }
     {
         let Operand { tree, height } = self;
         let height = one_higher(higher(height, right.height));
@@ -192,7 +195,8 @@ impl Operand {
         x: Binder,
         body: Operand,
     ) -> Result<Operand, AllocError>
-        ensures { IfOk result (λ p. operand_expr p ≡ let_syntax at (binder_syntax x) (operand_expr self) (operand_expr body)) }
+        ensures { IfOk result (λ p. operand_expr p
+            ≡ let_syntax at (binder_syntax x) (operand_expr self) (operand_expr body)) }
     {
         let Operand { tree, height } = self;
         let height = one_higher(higher(height, body.height));
@@ -208,29 +212,12 @@ impl Operand {
         one: Operand,
         other: Operand,
     ) -> Result<Operand, AllocError>
-        ensures { IfOk result (λ p. operand_expr p ≡ if_syntax at (operand_expr self) (operand_expr one) (operand_expr other)) }
+        ensures { IfOk result (λ p. operand_expr p
+            ≡ if_syntax at (operand_expr self) (operand_expr one) (operand_expr other)) }
     {
         let Operand { tree, height } = self;
         let height = one_higher(higher(height, higher(one.height, other.height)));
         let node = RawNode::If(tree, one.tree, other.tree);
-        Operand::of_tree(alloc, RawExpr { at, node }, height)
-    }
-
-    /// `match self with [] -> empty | head :: tail -> full`
-    pub fn matched(
-        self,
-        alloc: Global,
-        at: u32,
-        empty: Operand,
-        head: Binder,
-        tail: Binder,
-        full: Operand,
-    ) -> Result<Operand, AllocError>
-        ensures { IfOk result (λ p. operand_expr p ≡ match_syntax at (operand_expr self) (operand_expr empty) (binder_syntax head) (binder_syntax tail) (operand_expr full)) }
-    {
-        let Operand { tree, height } = self;
-        let height = one_higher(higher(height, higher(empty.height, full.height)));
-        let node = RawNode::Match(tree, empty.tree, head, tail, full.tree);
         Operand::of_tree(alloc, RawExpr { at, node }, height)
     }
 

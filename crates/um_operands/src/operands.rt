@@ -1,6 +1,7 @@
 // The items, arguments and fields that were read, with the greatest of their heights.
 ghost use Rattle.std.specs.Prelude.{◌≡◌, ◌≤◌, ◌++◌, ◌∷◌, [], IfOk, map};
-ghost use Rattle.um_tree.specs.RawTree.{expr_syntax, exprs_in_order, field_part, fields_in_order, call_syntax, list_syntax, fields_syntax};
+ghost use Rattle.um_tree.specs.RawTree.{expr_syntax, exprs_in_order, field_part, fields_in_order};
+ghost use Rattle.um_tree.specs.RawTree.{call_syntax, list_syntax, fields_syntax};
 ghost use Rattle.um_tree.specs.Heights.{tallest_expr, tallest_field};
 ghost use Rattle.um_types.specs.UnitCount.{counted};
 ghost use Rattle.um_types.specs.UnitStops.{greatest_height};
@@ -12,8 +13,7 @@ use std::alloc::{AllocError, Global};
 use um_tree::{Name, RawExpr, RawExprs, RawField, RawFields, RawNode};
 use um_types::{higher, one_higher};
 
-/// Some expressions and the height of the highest, counted. No unit text or type text in them is
-/// too high.
+/// Some expressions and the height of the highest, counted. No unit text or type text in them is too high.
 #[derive(Drop)]
 pub struct Operands {
     pub items: Vec<RawExpr>,
@@ -22,8 +22,7 @@ pub struct Operands {
     ghost low: { notes_in_all (exprs_in_order (map expr_syntax items.items)) ≤ greatest_height },
 }
 
-/// Some fields of a record text and the height of the highest, counted. No unit text or type text in them is
-/// too high.
+/// Some fields of a record text and the height of the highest, counted. No unit text or type text in them is too high.
 #[derive(Drop)]
 pub struct ReadFields {
     pub items: Vec<RawField>,

@@ -16,12 +16,12 @@ use Rattle.um_reader.proofs.Reaching.{yields_here, yields_as}
 use Rattle.um_tree.specs.declared.expression.Sign.TheVariants as compare
 use Rattle.um_operands.specs.declared.infix.Infix.TheVariants as between
 use Rattle.um_operands.specs.ExprBegun.{Need}
-use Rattle.um_expr.specs.declared.token.ExprToken.{ExprToken}
-use Rattle.um_expr.specs.declared.token.ExprToken.TheVariants.{Name as name, Variable as variable, Operator as operator, Word as word, Mark as mark}
-use Rattle.um_expr.specs.ExprTokens.{expr_token, equal, less, greater}
+use Rattle.um_forms.specs.declared.token.ExprToken.{ExprToken}
+use Rattle.um_forms.specs.declared.token.ExprToken.TheVariants.{Name as name, Variable as variable, Operator as operator, Word as word, Mark as mark}
+use Rattle.um_forms.specs.ExprTokens.{expr_token, equal, less, greater}
 use Rattle.um_expr.specs.ExprGrammar.{First, FirstAt}
 use Rattle.um_parse.specs.DeclGrammar.{Attribute, VarSpells, MoreVars, VarsSpell, FieldDeclSpells, MoreFieldDecls, ParamSpells, ParamsSpell, ResultSpells, RecSpells, FunctionSpells, DeclSpells, FieldDeclsFit, ParamsFit, ResultFits, DeclFits}
-use Rattle.um_parse.specs.DeclMachine.{FunctionStart, start_of, VarOwner, OfRecord, OfFunction, started, body_begins_if, decl_act, DeclBegin, AttributeWord, AttributeGreater, AttributeClose, MeasureType, MeasureName, RecordName, RecordVars, VarBegin, VarWord, VarGreater, VarClose, VarName, VarEnd, RecordEqual, RecordBrace, FieldName, FieldColon, LetName, RecName, FunctionVars, Params, ParamBinder, ParamColon, DeclState, Expects, HaveBase, InShort, HaveRecord, InField, InParam, InResult, InBody, field_ends, param_ends, result_ends, field_goes, param_goes, result_goes, short_found, body_found, decl_finish, decl_step}
+use Rattle.um_decls.specs.DeclMachine.{FunctionStart, start_of, VarOwner, OfRecord, OfFunction, started, body_begins_if, decl_act, DeclBegin, AttributeWord, AttributeGreater, AttributeClose, MeasureType, MeasureName, RecordName, RecordVars, VarBegin, VarWord, VarGreater, VarClose, VarName, VarEnd, RecordEqual, RecordBrace, FieldName, FieldColon, LetName, RecName, FunctionVars, Params, ParamBinder, ParamColon, DeclState, Expects, HaveBase, InShort, HaveRecord, InField, InParam, InResult, InBody, field_ends, param_ends, result_ends, field_goes, param_goes, result_goes, short_found, body_found, decl_finish, decl_step}
 use Rattle.um_expr.proofs.ExprTokenKinds.{mark_is, equal_is}
 use Rattle.um_expr.proofs.ExprEnds.{opened, last_atom}
 use Rattle.um_expr.proofs.ExprAtEnd.{at_end}
@@ -105,7 +105,7 @@ yields_field at x vs before f tokens rest s fits =
     (yields_type (λ w. InField at x vs before f.at f.name w) (field_inside at x vs before f.at f.name) f.type s.1 rest s.4 fits)
     )
 
--- the token behind the type of a field
+-- the token after the type of a field
 ends_field : (at : ℕ) (x : List ℕ) (vs : List VarSyntax) (before : List FieldDeclSyntax) (f : FieldDeclSyntax) (what : ExprToken) (new : DeclState) (tokens rest : List Token) → First what tokens rest
     → ((k : Kind) → expr_token k ≡ what → type_after 0 f.type k ≡ NoType) → field_ends at x vs before f.at f.name (Some f.type) what ≡ new
     → Yields decl_step (InField at x vs before f.at f.name (HaveType 0 f.type)) tokens new rest
@@ -206,7 +206,7 @@ FirstPasses tokens = (token : Token) × (more : List Token) × (tokens ≡ token
 passes : (what : ExprToken) (tokens rest : List Token) → First what tokens rest → is_no_less what ≡ true → FirstPasses tokens
 passes what tokens rest f e = (f.0, rest, f.2, ap is_no_less f.1 ∙ e)
 
--- what stands behind the unit parameters begins with no `<`
+-- what stands after the unit parameters begins with no `<`
 first_behind : (ps : List ParamSyntax) (r : Option TypeSyntax) (tokens result mid rest : List Token) → ParamsSpell ps tokens result → ResultSpells r result mid → First equal mid rest → FirstPasses tokens
 first_behind (q ∷ ps) r tokens result mid rest s t e = passes (mark symbol.LeftParen) tokens s.1.0 s.1.4 refl
 first_behind [] (Some t) tokens result mid rest s u e = passes (mark symbol.Colon) tokens u.0 (subst (λ w. First (mark symbol.Colon) w u.0) (sym s) u.1) refl
@@ -215,7 +215,7 @@ first_behind [] None tokens result mid rest s u e = passes equal tokens rest (su
 pub same_head : (x y : Token) (xs ys : List Token) → x ∷ xs ≡ y ∷ ys → x ≡ y
 same_head x y xs ys e = cc
 
--- parameters, result and `=` are read behind the name as behind unit parameters
+-- parameters, result and `=` are read after the name as after unit parameters
 unparametered : (recursive : Bool) (at : ℕ) (x : List ℕ) (new : DeclState) (tokens rest : List Token) → FirstPasses tokens → Expects (Params (started recursive at x []) []) ≢ new
     → Yields decl_step (Expects (Params (started recursive at x []) [])) tokens new rest → Yields decl_step (Expects (FunctionVars recursive at x)) tokens new rest
 unparametered recursive at x new tokens rest f apart y = alike y.0 y.1 y.2

@@ -15,7 +15,7 @@ use Rattle.um_types.proofs.UnitCut.{unit_before}
 use Rattle.um_types.proofs.TypeSound.{TypeSpellsPrefix}
 use Rattle.um_types.proofs.TypeLaws.{type_ending, type_completed, type_can_end}
 use Rattle.um_parse.specs.DeclGrammar.{Attribute, VarsSpell, FieldDeclsSpell, DeclSpells, DeclFits}
-use Rattle.um_parse.specs.DeclMachine.{FunctionStart, VarOwner, OfRecord, OfFunction, started, function_from, DeclExpected, DeclBegin, AttributeWord, AttributeGreater, AttributeClose, MeasureType, MeasureName, RecordName, RecordVars, VarBegin, VarWord, VarGreater, VarClose, VarName, VarEnd, RecordEqual, RecordBrace, FieldName, FieldColon, LetName, RecName, FunctionVars, Params, ParamBinder, ParamColon, DeclState, Expects, HaveBase, InShort, HaveRecord, InField, InParam, InResult, InBody, NoDecl}
+use Rattle.um_decls.specs.DeclMachine.{FunctionStart, VarOwner, OfRecord, OfFunction, started, function_from, DeclExpected, DeclBegin, AttributeWord, AttributeGreater, AttributeClose, MeasureType, MeasureName, RecordName, RecordVars, VarBegin, VarWord, VarGreater, VarClose, VarName, VarEnd, RecordEqual, RecordBrace, FieldName, FieldColon, LetName, RecName, FunctionVars, Params, ParamBinder, ParamColon, DeclState, Expects, HaveBase, InShort, HaveRecord, InField, InParam, InResult, InBody, NoDecl}
 use Rattle.um_expr.proofs.ExprCompletions.{operand_token, operand, expr_ending, expr_completed, expr_can_end}
 use Rattle.um_parse.proofs.DeclPrefixes.{OwnerReads, RecordHead, VarsOpen, RecordOpens, FunctionHead, ExpectedReads, ExpectedFits, DeclSpellsPrefix, vars_last, vars_close, fields_last, fields_fit, params_fit, head_last}
 
@@ -66,7 +66,7 @@ record_rest = sign symbol.Equal ∷ brace_rest
 abbrev function_rest : List Token
 function_rest = sign symbol.Colon ∷ word keyword.Bool ∷ sign symbol.Equal ∷ operand_token ∷ []
 
--- `type name`; what is behind unit parameters; a variable, `>` and that
+-- `type name`; what is after unit parameters; a variable, `>` and that
 abbrev measure_rest : List Token
 measure_rest = word keyword.Type ∷ name_token ∷ []
 

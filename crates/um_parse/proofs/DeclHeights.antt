@@ -14,15 +14,16 @@ use Rattle.um_syntax.specs.declared.vocabulary.Symbol.TheVariants as symbol
 use Rattle.um_operands.specs.declared.infix.Infix.TheVariants as between
 use Rattle.um_operands.specs.ExprBegun.{State, Refused, finish}
 use Rattle.um_operands.specs.ExprLeast.{whole_least}
-use Rattle.um_expr.specs.declared.token.ExprToken.{ExprToken}
-use Rattle.um_expr.specs.declared.token.ExprToken.TheVariants.{Name as name, Variable as variable, Hole as hole, Operator as operator, Word as word, Mark as mark}
-use Rattle.um_expr.specs.ExprTokens.{expr_token}
+use Rattle.um_forms.specs.declared.token.ExprToken.{ExprToken}
+use Rattle.um_forms.specs.declared.token.ExprToken.TheVariants.{Name as name, Variable as variable, Hole as hole, Operator as operator, Word as word, Mark as mark}
+use Rattle.um_forms.specs.ExprTokens.{expr_token}
 use Rattle.um_expr.specs.ExprMachine.{step}
-use Rattle.um_parse.specs.ProgramHeights.{fields_height, params_height, result_height, decl_height}
-use Rattle.um_parse.specs.ProgramLeast.{expected_least, decl_least}
-use Rattle.um_parse.specs.DeclMachine.{FunctionStart, VarOwner, OfRecord, OfFunction, started, behind_vars, body_begins_if, take_params, function_from, DeclExpected, DeclBegin, AttributeWord, AttributeGreater, AttributeClose, MeasureType, MeasureName, RecordName, RecordVars, VarBegin, VarWord, VarGreater, VarClose, VarName, VarEnd, RecordEqual, RecordBrace, FieldName, FieldColon, LetName, RecName, FunctionVars, Params, ParamBinder, ParamColon, DeclState, Expects, HaveBase, InShort, HaveRecord, InField, InParam, InResult, InBody, NoDecl, body_begins, take_expected, base_after, field_ends, param_ends, result_ends, short_goes, field_goes, param_goes, result_goes, body_goes, decl_step, short_found, body_found, decl_finish}
+use Rattle.um_decls.specs.DeclHeights.{fields_height, params_height, result_height}
+use Rattle.um_parse.specs.ProgramHeights.{decl_height}
+use Rattle.um_decls.specs.DeclLeast.{expected_least, decl_least}
+use Rattle.um_decls.specs.DeclMachine.{FunctionStart, VarOwner, OfRecord, OfFunction, started, after_vars, body_begins_if, take_params, function_from, DeclExpected, DeclBegin, AttributeWord, AttributeGreater, AttributeClose, MeasureType, MeasureName, RecordName, RecordVars, VarBegin, VarWord, VarGreater, VarClose, VarName, VarEnd, RecordEqual, RecordBrace, FieldName, FieldColon, LetName, RecName, FunctionVars, Params, ParamBinder, ParamColon, DeclState, Expects, HaveBase, InShort, HaveRecord, InField, InParam, InResult, InBody, NoDecl, body_begins, take_expected, base_after, field_ends, param_ends, result_ends, short_goes, field_goes, param_goes, result_goes, body_goes, decl_step, short_found, body_found, decl_finish}
 use Rattle.um_expr.proofs.ExprHeights.{expr_completed_height, expr_up, expr_found_height}
-use Rattle.um_parse.proofs.DeclLists.{fields_height_last, params_height_last}
+use Rattle.um_decls.proofs.DeclLists.{fields_height_last, params_height_last}
 use Rattle.um_parse.proofs.DeclPrefixes.{DeclSpellsPrefix}
 use Rattle.um_parse.proofs.DeclCompletions.{unnamed_var, owner_with, expected_completed, decl_completed}
 
@@ -85,7 +86,7 @@ take_params_up head ps (mark symbol.Colon) = omega arith
 take_params_up head ps (operator (between.Compare compare.Eq)) = body_up head ps
 take_params_up head ps _ = tt
 
--- behind the name of a function
+-- after the name of a function
 named_up : (recursive : Bool) (at : ℕ) (x : List ℕ) (what : ExprToken) → Above 1 (take_params (started recursive at x []) [] what)
 named_up recursive at x what = subst (λ n. Above n (take_params (started recursive at x []) [] what)) least_is (take_params_up (started recursive at x []) [] what)
   where
@@ -93,7 +94,7 @@ named_up recursive at x what = subst (λ n. Above n (take_params (started recurs
     least_is = omega arith
 
 -- a record without fields, or a function without parameters
-vars_up : (owner : VarOwner) (vs : List VarSyntax) → Above 1 (Expects (behind_vars owner vs))
+vars_up : (owner : VarOwner) (vs : List VarSyntax) → Above 1 (Expects (after_vars owner vs))
 vars_up (OfRecord at x) vs = omega arith
 vars_up (OfFunction recursive at x) vs = omega arith
 

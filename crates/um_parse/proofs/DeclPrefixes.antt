@@ -9,14 +9,14 @@ use Rattle.um_types.proofs.TypeSound.{TypeSpellsPrefix}
 use Rattle.um_syntax.specs.declared.vocabulary.Keyword.TheVariants as keyword
 use Rattle.um_syntax.specs.declared.vocabulary.Symbol.TheVariants as symbol
 use Rattle.um_operands.specs.ExprBegun.{Refused}
-use Rattle.um_expr.specs.declared.token.ExprToken.TheVariants.{Name as name, Word as word, Mark as mark}
-use Rattle.um_expr.specs.ExprTokens.{equal, less, greater}
+use Rattle.um_forms.specs.declared.token.ExprToken.TheVariants.{Name as name, Word as word, Mark as mark}
+use Rattle.um_forms.specs.ExprTokens.{equal, less, greater}
 use Rattle.um_expr.specs.ExprGrammar.{First, FirstAt, BinderSpells}
 use Rattle.um_parse.specs.DeclGrammar.{Attribute, VarSpells, MoreVars, VarsSpell, FieldDeclSpells, MoreFieldDecls, FieldDeclsSpell, ParamSpells, ParamsSpell, ResultSpells, RecSpells, DeclSpells, FieldDeclsFit, ParamsFit, ResultFits}
-use Rattle.um_parse.specs.DeclMachine.{FunctionStart, VarOwner, OfRecord, OfFunction, DeclExpected, DeclBegin, AttributeWord, AttributeGreater, AttributeClose, MeasureType, MeasureName, RecordName, RecordVars, VarBegin, VarWord, VarGreater, VarClose, VarName, VarEnd, RecordEqual, RecordBrace, FieldName, FieldColon, LetName, RecName, FunctionVars, Params, ParamBinder, ParamColon, DeclState, Expects, HaveBase, InShort, HaveRecord, InField, InParam, InResult, InBody, NoDecl}
+use Rattle.um_decls.specs.DeclMachine.{FunctionStart, VarOwner, OfRecord, OfFunction, DeclExpected, DeclBegin, AttributeWord, AttributeGreater, AttributeClose, MeasureType, MeasureName, RecordName, RecordVars, VarBegin, VarWord, VarGreater, VarClose, VarName, VarEnd, RecordEqual, RecordBrace, FieldName, FieldColon, LetName, RecName, FunctionVars, Params, ParamBinder, ParamColon, DeclState, Expects, HaveBase, InShort, HaveRecord, InField, InParam, InResult, InBody, NoDecl}
 use Rattle.um_expr.proofs.ExprPrefixes.{SpellsPrefix}
 
--- each unit parameter with the comma behind it; at least one, with commas between them
+-- each unit parameter with the comma after it; at least one, with commas between them
 abbrev pub VarsRead : List VarSyntax → List Token → List Token → Type 0
 VarsRead [] tokens rest = tokens ≡ rest
 VarsRead (v ∷ vs) tokens rest = (mid next : List Token) × VarSpells v tokens mid × First (mark symbol.Comma) mid next × VarsRead vs next rest
@@ -25,7 +25,7 @@ abbrev pub VarsBetween : List VarSyntax → List Token → List Token → Type 0
 VarsBetween [] tokens rest = ⊥
 VarsBetween (v ∷ vs) tokens rest = (mid : List Token) × VarSpells v tokens mid × MoreVars vs mid rest
 
--- each field with the `;` behind it
+-- each field with the `;` after it
 abbrev pub FieldsRead : List FieldDeclSyntax → List Token → List Token → Type 0
 FieldsRead [] tokens rest = tokens ≡ rest
 FieldsRead (f ∷ fs) tokens rest = (mid next : List Token) × FieldDeclSpells f tokens mid × First (mark symbol.Semicolon) mid next × FieldsRead fs next rest

@@ -14,13 +14,13 @@ use Rattle.um_syntax.specs.declared.vocabulary.Keyword.TheVariants as keyword
 use Rattle.um_syntax.specs.declared.vocabulary.Symbol.TheVariants as symbol
 use Rattle.um_operands.specs.declared.infix.Infix.TheVariants as between
 use Rattle.um_operands.specs.ExprBegun.{State, Need, Refused, finish}
-use Rattle.um_expr.specs.declared.token.ExprToken.{ExprToken}
-use Rattle.um_expr.specs.declared.token.ExprToken.TheVariants.{Name as name, Variable as variable, Hole as hole, Operator as operator, Word as word, Mark as mark}
-use Rattle.um_expr.specs.ExprTokens.{expr_token, equal}
+use Rattle.um_forms.specs.declared.token.ExprToken.{ExprToken}
+use Rattle.um_forms.specs.declared.token.ExprToken.TheVariants.{Name as name, Variable as variable, Hole as hole, Operator as operator, Word as word, Mark as mark}
+use Rattle.um_forms.specs.ExprTokens.{expr_token, equal}
 use Rattle.um_expr.specs.ExprGrammar.{First, FirstAt, BinderSpells}
 use Rattle.um_expr.specs.ExprMachine.{step}
 use Rattle.um_parse.specs.DeclGrammar.{VarsSpell, DeclSpells, ResultSpells, ParamsFit, ResultFits, FieldDeclsFit, DeclFits}
-use Rattle.um_parse.specs.DeclMachine.{FunctionStart, VarOwner, OfRecord, OfFunction, started, behind_vars, body_begins_if, take_params, function_from, DeclExpected, DeclBegin, AttributeWord, AttributeGreater, AttributeClose, MeasureType, MeasureName, RecordName, RecordVars, VarBegin, VarWord, VarGreater, VarClose, VarName, VarEnd, RecordEqual, RecordBrace, FieldName, FieldColon, LetName, RecName, FunctionVars, Params, ParamBinder, ParamColon, DeclState, Expects, HaveBase, InShort, HaveRecord, InField, InParam, InResult, InBody, NoDecl, body_begins, take_expected, base_after, field_ends, param_ends, result_ends, short_goes, field_goes, param_goes, result_goes, body_goes, decl_step, short_found, body_found, decl_finish}
+use Rattle.um_decls.specs.DeclMachine.{FunctionStart, VarOwner, OfRecord, OfFunction, started, after_vars, body_begins_if, take_params, function_from, DeclExpected, DeclBegin, AttributeWord, AttributeGreater, AttributeClose, MeasureType, MeasureName, RecordName, RecordVars, VarBegin, VarWord, VarGreater, VarClose, VarName, VarEnd, RecordEqual, RecordBrace, FieldName, FieldColon, LetName, RecName, FunctionVars, Params, ParamBinder, ParamColon, DeclState, Expects, HaveBase, InShort, HaveRecord, InField, InParam, InResult, InBody, NoDecl, body_begins, take_expected, base_after, field_ends, param_ends, result_ends, short_goes, field_goes, param_goes, result_goes, body_goes, decl_step, short_found, body_found, decl_finish}
 use Rattle.um_expr.proofs.ExprPrefixes.{SpellsPrefix}
 use Rattle.um_expr.proofs.ExprSound.{step_sound, expr_found}
 use Rattle.um_parse.proofs.DeclPrefixes.{OwnerReads, FieldsRead, RecordOpens, MeasureReads, FunctionHead, DeclSpellsPrefix, vars_comma, vars_last, vars_close, fields_semi, fields_last, fields_fit, params_fit, head_last}
@@ -39,7 +39,7 @@ body_begins_sound head ps tokens mid rest h s fits = by (head.recursive) refl
     by true e = tt
     by false e = (mid, mid, rest, h, refl, s, (refl, tt), fits, e, need_expr)
 
--- behind the parameters of a function, or its name
+-- after the parameters of a function, or its name
 params_sound : (head : FunctionStart) (ps : List ParamSyntax) (what : ExprToken) (at : ℕ) (tokens mid rest : List Token) → FunctionHead head ps tokens mid → ParamsFit ps → FirstAt what at mid rest
     → DeclSpellsPrefix (take_params head ps what) tokens rest
 params_sound head ps (mark symbol.LeftParen) at tokens mid rest h fits s = ((mid, h, (s.0, s.1, s.3)), fits)
@@ -47,8 +47,8 @@ params_sound head ps (mark symbol.Colon) at tokens mid rest h fits s = (mid, res
 params_sound head ps (operator (between.Compare compare.Eq)) at tokens mid rest h fits s = body_begins_sound head ps tokens mid rest h (s.0, s.1, s.3) fits
 params_sound head ps _ at tokens mid rest h fits s = tt
 
--- behind the `>` of unit parameters
-vars_sound : (owner : VarOwner) (vs : List VarSyntax) (tokens sign rest : List Token) → OwnerReads owner tokens sign → VarsSpell vs sign rest → DeclSpellsPrefix (Expects (behind_vars owner vs)) tokens rest
+-- after the `>` of unit parameters
+vars_sound : (owner : VarOwner) (vs : List VarSyntax) (tokens sign rest : List Token) → OwnerReads owner tokens sign → VarsSpell vs sign rest → DeclSpellsPrefix (Expects (after_vars owner vs)) tokens rest
 vars_sound (OfRecord p x) vs tokens sign rest h s = ((sign, h, s), tt)
 vars_sound (OfFunction recursive p x) vs tokens sign rest h s = ((sign, rest, h, s, refl), tt)
 

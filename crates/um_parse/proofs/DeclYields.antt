@@ -14,17 +14,18 @@ use Rattle.um_types.proofs.UnitNested.{unit_reaches}
 use Rattle.um_types.proofs.TypeComplete.{type_reaches}
 use Rattle.um_syntax.specs.declared.vocabulary.Keyword.TheVariants as keyword
 use Rattle.um_syntax.specs.declared.vocabulary.Symbol.TheVariants as symbol
-use Rattle.um_operands.specs.ExprBegun.{State, Need, Refused}
-use Rattle.um_expr.specs.declared.token.ExprToken.{ExprToken}
-use Rattle.um_expr.specs.declared.token.ExprToken.TheVariants.{Name as name, Hole as hole, Word as word, Mark as mark}
-use Rattle.um_expr.specs.ExprTokens.{expr_token, greater}
+use Rattle.um_operands.specs.ExprBegun.{Need, Refused}
+use Rattle.um_forms.specs.declared.token.ExprToken.{ExprToken}
+use Rattle.um_forms.specs.declared.token.ExprToken.TheVariants.{Name as name, Hole as hole, Word as word, Mark as mark}
+use Rattle.um_forms.specs.ExprTokens.{expr_token, greater}
 use Rattle.um_expr.specs.ExprGrammar.{First, FirstAt, bound, BinderSpells, Spells, Fits}
 use Rattle.um_expr.specs.ExprMachine.{step}
 use Rattle.um_parse.specs.DeclGrammar.{Attribute}
-use Rattle.um_parse.specs.DeclMachine.{FunctionStart, DeclState, InShort, InField, InParam, InResult, InBody, short_goes, field_goes, param_goes, result_goes, body_goes, field_ends, param_ends, result_ends, decl_act, decl_step}
+use Rattle.um_decls.specs.DeclMachine.{FunctionStart, DeclState, InShort, InField, InParam, InResult, InBody, short_goes, field_goes, param_goes, result_goes, field_ends, param_ends, result_ends, decl_act, decl_step}
 use Rattle.um_expr.proofs.ExprEnds.{opened, last_atom}
 use Rattle.um_expr.proofs.ExprAtEnd.{at_end}
 use Rattle.um_expr.proofs.ExprLaws.{expr_reaches}
+use Rattle.um_decls.proofs.DeclTokens.{body_inside}
 
 pub thence : {a b c : DeclState} → {s t r : List Token} → Yields decl_step a s b t → Yields decl_step b t c r → Yields decl_step a s c r
 thence {a = a} {b = b} {c = c} {s = s} {t = t} {r = r} p q = yields_then decl_step a b c s t r p q
@@ -49,7 +50,7 @@ yields_binder old new x tokens rest s named free = by_name x.name s
     by_name (Some y) f = yields_at old (new (record { at = x.at; name = Some y })) (name y) x.at tokens rest f (λ g k. named y x.at g k)
     by_name None f = yields_at old (new (record { at = x.at; name = None })) hole x.at tokens rest f (λ g k. free x.at g k)
 
--- `[<Measure>]`, by the states behind its tokens
+-- `[<Measure>]`, by the states after its tokens
 pub yields_attribute : (a b c d e : DeclState) (tokens rest : List Token) → Attribute tokens rest → ((p : ℕ) (g : Bool) (k : Kind) → decl_act a (mark symbol.AttributeOpen) p g k ≡ b)
     → ((p : ℕ) (g : Bool) (k : Kind) → decl_act b (word keyword.Measure) p g k ≡ c) → ((p : ℕ) (g : Bool) (k : Kind) → decl_act c greater p g k ≡ d)
     → ((p : ℕ) (g : Bool) (k : Kind) → decl_act d (mark symbol.RightBracket) p g k ≡ e) → Yields decl_step a tokens e rest
@@ -74,14 +75,6 @@ short_inside at x u new token e ok = ap (short_goes at x) e ∙ short_on new ok
 pub yields_unit : (at : ℕ) (x : List ℕ) (u : UnitSyntax) (tokens rest : List Token) → UnitSpells u tokens rest → UnitFits u → Yields decl_step (InShort at x (NeedUnit [])) tokens (InShort at x (unit_into [] u)) rest
 yields_unit at x u tokens rest s fits =
     let r = unit_reaches u tokens rest s fits in (r.0, r.1, lift unit_step NoUnit (λ t. refl) decl_step (λ w. InShort at x w) (short_inside at x) r.0 (NeedUnit []) (unit_into [] u) r.2 r.3)
-
-pub body_inside : (head : FunctionStart) (ps : List ParamSyntax) (r : Option TypeSyntax) (e new : State) (token : Token) → step e token ≡ new → new ≢ Refused
-    → decl_step (InBody head ps r e) token ≡ InBody head ps r new
-body_inside head ps r e new token same ok = ap (body_goes head ps r) same ∙ body_on new ok
-  where
-    body_on : (w : State) → w ≢ Refused → body_goes head ps r w ≡ InBody head ps r w
-    body_on Refused h = absurd (h refl)
-    body_on _ h = refl
 
 pub yields_body : (head : FunctionStart) (ps : List ParamSyntax) (r : Option TypeSyntax) (e : ExprSyntax) (tokens rest : List Token) → Spells e tokens rest → Fits e
     → (b : Bool) × Yields decl_step (InBody head ps r (Need [])) tokens (InBody head ps r (at_end b (opened [] e) (last_atom e))) rest

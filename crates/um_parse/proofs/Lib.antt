@@ -1,5 +1,5 @@
-mod DeclLists
 mod DeclYields
+mod DeclExpected
 mod DeclComplete
 mod ProgramComplete
 mod DeclPrefixes
@@ -11,9 +11,6 @@ mod ProgramLow
 mod ProgramExact
 mod ProgramNodes
 mod LimitLaws
-mod DeclTaken
-mod DeclTokens
-mod DeclEnds
 mod ProgramSteps
 mod Front
 mod ProgramParsed

@@ -12,12 +12,12 @@ use Rattle.um_types.proofs.ForeignTokens.{foreign_refused}
 use Rattle.um_syntax.specs.declared.vocabulary.Keyword.TheVariants as keyword
 use Rattle.um_syntax.specs.declared.vocabulary.Symbol.TheVariants as symbol
 use Rattle.um_operands.specs.ExprBegun.{Frame, Refused}
-use Rattle.um_expr.specs.declared.token.ExprToken.{ExprToken}
-use Rattle.um_expr.specs.declared.token.ExprToken.TheVariants.{Word as word, Mark as mark}
-use Rattle.um_expr.specs.ExprTokens.{expr_token}
+use Rattle.um_forms.specs.declared.token.ExprToken.{ExprToken}
+use Rattle.um_forms.specs.declared.token.ExprToken.TheVariants.{Word as word, Mark as mark}
+use Rattle.um_forms.specs.ExprTokens.{expr_token}
 use Rattle.um_expr.specs.ExprMachine.{act}
 use Rattle.um_parse.specs.DeclGrammar.{DeclSpells, DeclsSpell, DeclFits, DeclsFit, IsProgram}
-use Rattle.um_parse.specs.DeclMachine.{start_of, DeclBegin, DeclState, Expects, NoDecl, base_after, short_goes, body_goes, decl_step, decl_finish, ProgramState, InProgram, program_goes, next_decl, program_step, program_found, program_finish}
+use Rattle.um_decls.specs.DeclMachine.{start_of, DeclBegin, DeclState, Expects, NoDecl, base_after, short_goes, body_goes, decl_step, decl_finish, ProgramState, InProgram, program_goes, next_decl, program_step, program_found, program_finish}
 use Rattle.um_expr.proofs.ExprTokenKinds.{begins_decl, decl_is_foreign}
 use Rattle.um_expr.proofs.ExprEnds.{opened, last_atom}
 use Rattle.um_expr.proofs.ExprAtEnd.{at_end}
@@ -48,7 +48,7 @@ decl_stops b (record_decl_syntax at x vs fs) token h = refl
 decl_stops b (function_syntax f) token h =
     ap (body_goes (start_of f) f.params f.result) (expr_stops b (opened [] f.body) (last_atom f.body) (expr_token token.kind) token.start token.glued token.kind h)
 
--- ---- declarations one behind the other
+-- ---- declarations one after the other
 
 goes_on : (decls : List DeclSyntax) (new : DeclState) (over : ProgramState) → new ≢ NoDecl → program_goes decls new over ≡ InProgram decls new
 goes_on decls NoDecl over ok = absurd (ok refl)
@@ -84,7 +84,7 @@ decl_first (short_syntax at x u) tokens rest s = let a = s.4.3 in (a.0, s.4.0, a
 decl_first (record_decl_syntax at x vs fs) tokens rest s = let a = s.6 in (a.0, s.0, a.2, ap begins_decl a.1)
 decl_first (function_syntax f) tokens rest s = let a = s.7 in (a.0, s.0, a.2, ap begins_decl a.1)
 
--- behind a declaration the next begins as at the start
+-- after a declaration the next begins as at the start
 next_alike : (decls : List DeclSyntax) (b : Bool) (d : DeclSyntax) (token : Token) → DeclFits d → begins_decl (expr_token token.kind) ≡ true
     → program_step (InProgram decls (decl_into b d)) token ≡ program_step (InProgram (decls ++ d ∷ []) (Expects DeclBegin)) token
 next_alike decls b d token fits h =

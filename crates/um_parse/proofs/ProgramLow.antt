@@ -5,9 +5,10 @@ use Rattle.um_tree.specs.RawTree.{DeclSyntax}
 use Rattle.um_reader.specs.Machine.{reached, IsReaderOf}
 use Rattle.um_reader.proofs.Readers.{none_some}
 use Rattle.um_parse.specs.DeclGrammar.{IsProgram}
-use Rattle.um_parse.specs.DeclMachine.{DeclBegin, DeclState, Expects, NoDecl, decl_step, decl_finish, ProgramState, InProgram, NoProgram, program_goes, next_decl, program_step, program_finish}
+use Rattle.um_decls.specs.DeclMachine.{DeclBegin, DeclState, Expects, NoDecl, decl_step, decl_finish, ProgramState, InProgram, NoProgram, program_goes, next_decl, program_step, program_finish}
 use Rattle.um_parse.specs.ProgramHeights.{decl_height, program_height}
-use Rattle.um_parse.specs.ProgramLeast.{decl_least, program_least, machine_of_programs}
+use Rattle.um_decls.specs.DeclLeast.{decl_least}
+use Rattle.um_parse.specs.ProgramLeast.{program_least, machine_of_programs}
 use Rattle.um_parse.proofs.DeclCompletions.{decl_completed}
 use Rattle.um_parse.proofs.DeclHeights.{decl_completed_height, decl_up, decl_found_height}
 use Rattle.um_parse.proofs.ProgramComplete.{finds}

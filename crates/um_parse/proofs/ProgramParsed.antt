@@ -14,7 +14,7 @@ use Rattle.um_types.proofs.TokenPlaces.{place_at, place_behind}
 use Rattle.um_types.specs.declared.parse.LimitKind.TheVariants as limit
 use Rattle.um_types.specs.declared.parse.ParseStop.{ParseStop}
 use Rattle.um_types.specs.declared.parse.ParseStop.TheVariants as stop
-use Rattle.um_parse.specs.DeclMachine.{ProgramState, program_finish}
+use Rattle.um_decls.specs.DeclMachine.{ProgramState, program_finish}
 use Rattle.um_parse.specs.ProgramLeast.{machine_of_programs}
 use Rattle.um_parse.specs.DeclGrammar.{IsProgram}
 use Rattle.um_parse.specs.ProgramHeights.{program_height}

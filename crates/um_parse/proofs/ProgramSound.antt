@@ -7,7 +7,7 @@ use Rattle.um_reader.specs.Machine.{runs}
 use Rattle.um_reader.proofs.Reaching.{runs_sound}
 use Rattle.um_reader.proofs.Readers.{none_some, some_same}
 use Rattle.um_parse.specs.DeclGrammar.{DeclSpells, DeclsSpell, DeclFits, DeclsFit, IsProgram}
-use Rattle.um_parse.specs.DeclMachine.{DeclBegin, DeclState, Expects, NoDecl, decl_step, decl_finish, ProgramState, InProgram, NoProgram, program_goes, next_decl, program_step, at_start, program_found, program_finish}
+use Rattle.um_decls.specs.DeclMachine.{DeclBegin, DeclState, Expects, NoDecl, decl_step, decl_finish, ProgramState, InProgram, NoProgram, program_goes, next_decl, program_step, at_start, program_found, program_finish}
 use Rattle.um_parse.proofs.DeclPrefixes.{DeclSpellsPrefix}
 use Rattle.um_parse.proofs.DeclSound.{decl_sound, decl_found}
 use Rattle.um_parse.proofs.DeclCompletions.{decl_ending, decl_completed, decl_can_end}

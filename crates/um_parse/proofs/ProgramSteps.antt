@@ -7,10 +7,11 @@ use Rattle.um_reader.specs.declared.taken.Taken.{Taken}
 use Rattle.um_reader.specs.declared.taken.Taken.TheVariants as taken
 use Rattle.um_reader.proofs.Readers.{gives_as}
 use Rattle.um_types.specs.UnitStops.{greatest_height}
-use Rattle.um_parse.specs.DeclMachine.{DeclBegin, DeclState, Expects, decl_step, decl_finish, ProgramState, InProgram, NoProgram, program_goes, next_decl, program_step, at_start, program_found, program_finish}
+use Rattle.um_decls.specs.DeclMachine.{DeclBegin, DeclState, Expects, decl_step, decl_finish, ProgramState, InProgram, NoProgram, program_goes, next_decl, program_step, at_start, program_found, program_finish}
 use Rattle.um_parse.specs.ProgramHeights.{decl_height, program_height}
-use Rattle.um_parse.specs.ProgramLeast.{decl_least, program_least, machine_of_declarations, machine_of_programs}
-use Rattle.um_parse.specs.DeclTokens.{BeginsAlike}
+use Rattle.um_decls.specs.DeclLeast.{decl_least, machine_of_declarations}
+use Rattle.um_parse.specs.ProgramLeast.{program_least, machine_of_programs}
+use Rattle.um_decls.specs.DeclTokens.{BeginsAlike}
 use Rattle.um_parse.proofs.DeclHeights.{decl_found_height}
 use Rattle.um_parse.proofs.ProgramLow.{height_last}
 
@@ -33,7 +34,7 @@ next_gives decls old mid token left given new begun t same gives =
     in
     subst (λ n. Gives machine_of_programs greatest_height (InProgram decls old) n given new) e (gives (InProgram decls old) whole)
 
--- a declaration ends there, and stands behind the others
+-- a declaration ends there, and stands after the others
 module _ (earlier new : List DeclSyntax) (d : DeclSyntax) (s : DeclState) (pushed : new ≡ earlier ++ d ∷ []) (begun : s ≡ Expects DeclBegin) where
   pub more_low : program_height earlier ≤ greatest_height → decl_height d ≤ greatest_height → program_least (InProgram new s) ≤ greatest_height
   more_low low high =

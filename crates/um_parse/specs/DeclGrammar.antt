@@ -18,16 +18,16 @@ use Rattle.um_types.specs.UnitGrammar.{Spells as UnitSpells, Fits as UnitFits}
 use Rattle.um_types.specs.TypeGrammar.{TypeSpells, TypeFits}
 use Rattle.um_syntax.specs.declared.vocabulary.Keyword.TheVariants as keyword
 use Rattle.um_syntax.specs.declared.vocabulary.Symbol.TheVariants as symbol
-use Rattle.um_expr.specs.declared.token.ExprToken.TheVariants.{Name as name, Variable as variable, Word as word}
-use Rattle.um_expr.specs.declared.token.ExprToken.TheVariants.{Mark as mark}
-use Rattle.um_expr.specs.ExprTokens.{equal, less, greater}
+use Rattle.um_forms.specs.declared.token.ExprToken.TheVariants.{Name as name, Variable as variable, Word as word}
+use Rattle.um_forms.specs.declared.token.ExprToken.TheVariants.{Mark as mark}
+use Rattle.um_forms.specs.ExprTokens.{equal, less, greater}
 use Rattle.um_expr.specs.ExprGrammar.{First, FirstAt, BinderSpells, Spells, Fits}
 
 -- `[<Measure>]`
 abbrev pub Attribute : List Token → List Token → Type 0
 Attribute tokens rest =
-    (behind sign last : List Token) × First (mark symbol.AttributeOpen) tokens behind
-    × First (word keyword.Measure) behind sign × First greater sign last × First (mark symbol.RightBracket) last rest
+    (next sign last : List Token) × First (mark symbol.AttributeOpen) tokens next
+    × First (word keyword.Measure) next sign × First greater sign last × First (mark symbol.RightBracket) last rest
 
 abbrev pub VarSpells : VarSyntax → List Token → List Token → Type 0
 VarSpells v tokens rest = (next : List Token) × Attribute tokens next × FirstAt (variable v.name) v.at next rest
@@ -37,7 +37,7 @@ MoreVars [] tokens rest = tokens ≡ rest
 MoreVars (v ∷ vs) tokens rest =
     (next mid : List Token) × First (mark symbol.Comma) tokens next × VarSpells v next mid × MoreVars vs mid rest
 
--- unit parameters in angle brackets, or nothing where there are none
+-- unit parameters in angle brackets, or nothing if there are none
 abbrev pub VarsSpell : List VarSyntax → List Token → List Token → Type 0
 VarsSpell [] tokens rest = tokens ≡ rest
 VarsSpell (v ∷ vs) tokens rest =
@@ -82,18 +82,18 @@ RecSpells true tokens rest = First (word keyword.Rec) tokens rest
 
 abbrev pub FunctionSpells : FunctionSyntax → List Token → List Token → Type 0
 FunctionSpells f tokens rest =
-    (behind named units params result sign body : List Token) × First (word keyword.Let) tokens behind
-    × RecSpells f.recursive behind named × FirstAt (name f.name) f.at named units × VarsSpell f.units units params
+    (next named units params result sign body : List Token) × First (word keyword.Let) tokens next
+    × RecSpells f.recursive next named × FirstAt (name f.name) f.at named units × VarsSpell f.units units params
     × ParamsSpell f.params params result × ResultSpells f.result result sign × First equal sign body
     × Spells f.body body rest
 
 -- the tokens are those of the declaration, and then the rest
 abbrev pub DeclSpells : DeclSyntax → List Token → List Token → Type 0
 DeclSpells (base_syntax at x) tokens rest =
-    (behind named : List Token) × Attribute tokens behind × First (word keyword.Type) behind named
+    (next named : List Token) × Attribute tokens next × First (word keyword.Type) next named
     × FirstAt (name x) at named rest
 DeclSpells (short_syntax at x u) tokens rest =
-    (behind named sign unit : List Token) × Attribute tokens behind × First (word keyword.Type) behind named
+    (next named sign unit : List Token) × Attribute tokens next × First (word keyword.Type) next named
     × FirstAt (name x) at named sign × First equal sign unit × UnitSpells u unit rest
 DeclSpells (record_decl_syntax at x vs fs) tokens rest =
     (named vars sign brace fields last : List Token) × First (word keyword.Type) tokens named

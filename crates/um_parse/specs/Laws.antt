@@ -14,7 +14,7 @@ abbrev pub ProgramsAreUnique : Type 0
 ProgramsAreUnique =
     (tokens : List Token) (ds es : List DeclSyntax) → IsProgram tokens ds → IsProgram tokens es → ds ≡ es
 
--- both answers are the same tree, or the same refusal at the same place, but for want of memory
+-- both answers are the same tree, or the same refusal at the same place, apart from want of memory
 abbrev pub AreSameAnswer : Result RawProgram ParseStop → Result RawProgram ParseStop → Type 0
 AreSameAnswer (Ok p) (Ok q) = program_syntax p ≡ program_syntax q
 AreSameAnswer (Err stop.NoMemory) other = Unit {0}

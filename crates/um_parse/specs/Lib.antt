@@ -5,11 +5,8 @@ pub mod ProgramLimits
 pub mod ProgramStops
 pub mod Parsed
 pub mod Laws
--- what mirrors the code: the machine that reads token by token, and what the readers hold
-pub mod DeclMachine
-pub mod DeclViews
-pub mod DeclTakes
-pub mod DeclTokens
+-- what mirrors the code: the machine of programs, and what the readers hold
 pub mod ProgramLeast
+pub mod ReaderStates
 pub mod ProgramNodes
 pub mod LimitsPassed

@@ -5,7 +5,7 @@ use Rattle.um_tree.specs.RawTree.{DeclSyntax}
 use Rattle.um_parse.specs.ProgramLimits.{WithinLimits, PassesAt}
 use Rattle.um_parse.specs.declared.limits.Passed.{Passed}
 
--- nothing where the program is within its limits, or else the first that it passes
+-- nothing if the program is within its limits; otherwise the first that it passes
 abbrev pub LimitPassed : List DeclSyntax → Option Passed → Type 0
 LimitPassed ds None = WithinLimits 0 ds
 LimitPassed ds (Some p) = PassesAt 0 ds p.kind p.at

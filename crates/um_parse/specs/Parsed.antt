@@ -29,7 +29,7 @@ pub record IsLarge (tokens : List Token) (kind : LimitKind) (at : ℕ) : Type 0 
   pub low : program_height ds ≤ greatest_height
   pub passes : PassesAt 0 ds kind at
 
--- a limit: the height at the token through which no program within it begins, the others where the tokens are a program
+-- a limit: the height at the token through which no program within it begins, the others if the tokens are a program
 abbrev pub LimitAt : List Token → ℕ → LimitKind → ℕ → Type 0
 LimitAt tokens end limit.Height at = (k : ℕ) × (at ≡ place_of tokens k end) × HighAt tokens k
 LimitAt tokens end kind at = IsLarge tokens kind at
@@ -45,7 +45,7 @@ abbrev pub ReadAt : List Token → ℕ → Result RawProgram ParseStop → Type 
 ReadAt tokens end (Ok p) = IsProgram tokens (program_syntax p) × (program_height (program_syntax p) ≤ greatest_height)
 ReadAt tokens end (Err stop) = Parsed tokens end (Err stop)
 
--- the program itself where it passes no limit besides its height, or else the first that it passes
+-- the program itself if it passes no limit besides its height; otherwise the first that it passes
 abbrev pub Limited : List DeclSyntax → Result RawProgram ParseStop → Type 0
 Limited ds (Ok p) = (program_syntax p ≡ ds) × WithinLimits 0 ds
 Limited ds (Err (stop.Syntax at)) = ⊥

@@ -35,7 +35,7 @@ name_place (short_syntax at x u) = at
 name_place (record_decl_syntax at x vs fs) = at
 name_place (function_syntax f) = f.at
 
--- the first limit that a declaration passes, behind so many functions
+-- the first limit that a declaration passes, after so many functions
 abbrev pub passed_limit : ℕ → DeclSyntax → Option LimitKind
 passed_limit before (base_syntax at x) = None
 passed_limit before (short_syntax at x u) = None
@@ -53,7 +53,7 @@ abbrev pub WithinLimits : ℕ → List DeclSyntax → Type 0
 WithinLimits before [] = Unit {0}
 WithinLimits before (d ∷ ds) = (passed_limit before d ≡ None) × WithinLimits (before + functions_in d) ds
 
--- the limit that is passed here, or else what is said of the later declarations
+-- the limit that is passed here; otherwise what is said of the later declarations
 abbrev pub FirstPassed : Option LimitKind → ℕ → LimitKind → ℕ → Type 0 → Type 0
 FirstPassed (Some passed) place kind at later = (kind ≡ passed) × (at ≡ place)
 FirstPassed None place kind at later = later

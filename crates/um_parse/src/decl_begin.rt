@@ -1,14 +1,14 @@
 // The tokens before the name of a declaration.
 ghost use Rattle.std.specs.Prelude.{◌≡◌, ℕ};
-ghost use Rattle.um_expr.specs.ExprTokens.{expr_token};
-ghost use Rattle.um_parse.specs.DeclMachine.{DeclBegin, take_expected};
-ghost use Rattle.um_parse.specs.DeclViews.{view_fixed, reached};
+ghost use Rattle.um_forms.specs.ExprTokens.{expr_token};
+ghost use Rattle.um_decls.specs.DeclMachine.{DeclBegin, take_expected};
+ghost use Rattle.um_parse.specs.ReaderStates.{view_fixed, reached};
 
 use crate::decl_prefix::{DeclExpected, FixedToken};
 use um_syntax::{Keyword, Kind, Symbol};
 
 // What follows the first token of a declaration.
-fn behind_first(kind: &Kind) -> Option<DeclExpected>
+fn after_begin(kind: &Kind) -> Option<DeclExpected>
     ensures { (p : ℕ) → reached result ≡ take_expected DeclBegin (expr_token kind.now) p }
 {
     match kind {
@@ -19,12 +19,12 @@ fn behind_first(kind: &Kind) -> Option<DeclExpected>
     }
 }
 
-/// What follows a token where no name may stand, or nothing where it is refused.
-pub fn behind(expected: FixedToken, kind: &Kind) -> Option<DeclExpected>
+/// What follows a token at which no name may stand, or nothing if it is refused.
+pub fn after_token(expected: FixedToken, kind: &Kind) -> Option<DeclExpected>
     ensures { (p : ℕ) → reached result ≡ take_expected (view_fixed expected) (expr_token kind.now) p }
 {
     match expected {
-        FixedToken::Begin => behind_first(kind),
+        FixedToken::Begin => after_begin(kind),
         FixedToken::Word => match kind {
             Kind::Word(Keyword::Measure) => Some(DeclExpected::Token(FixedToken::Greater)),
             _ => None,

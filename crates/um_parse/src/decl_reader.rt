@@ -5,39 +5,36 @@ ghost use Rattle.um_reader.specs.Takes.{Gives, Takes};
 ghost use Rattle.um_types.specs.UnitStops.{greatest_height};
 ghost use Rattle.um_types.specs.UnitMachine.{Need, finish};
 ghost use Rattle.um_types.specs.UnitView.{unit_state};
-ghost use Rattle.um_expr.specs.ExprTokens.{expr_token};
-ghost use Rattle.um_parse.specs.DeclMachine.{Expects, DeclBegin, MeasureName, RecordName, LetName, RecName};
-ghost use Rattle.um_parse.specs.DeclMachine.{FunctionVars, HaveBase, InShort, NoDecl, take_expected, base_after};
-ghost use Rattle.um_parse.specs.DeclMachine.{short_found, decl_finish, at_start};
-ghost use Rattle.um_parse.specs.ProgramLeast.{decl_least, machine_of_declarations};
-ghost use Rattle.um_parse.specs.DeclViews.{view_fixed, view_expected};
-ghost use Rattle.um_parse.specs.DeclTakes.{place_state, reader_state, base_step, Ends};
-ghost use Rattle.um_parse.specs.DeclTokens.{BeginsAlike, IfStops};
+ghost use Rattle.um_forms.specs.ExprTokens.{expr_token};
+ghost use Rattle.um_decls.specs.DeclMachine.{Expects, DeclBegin, MeasureName, RecordName, LetName, RecName};
+ghost use Rattle.um_decls.specs.DeclMachine.{FunctionVars, HaveBase, InShort, NoDecl, take_expected, base_after};
+ghost use Rattle.um_decls.specs.DeclMachine.{short_found, decl_finish, at_start};
+ghost use Rattle.um_decls.specs.DeclLeast.{decl_least, machine_of_declarations};
+ghost use Rattle.um_decls.specs.DeclTakes.{Ends};
+ghost use Rattle.um_decls.specs.DeclTokens.{BeginsAlike, IfStops};
+ghost use Rattle.um_parse.specs.ReaderStates.{view_fixed, view_expected, place_state, reader_state, base_step};
 
-use crate::decl_begin::behind;
-use crate::decl_end::push_found;
-use crate::decl_prefix::{DeclExpected, FixedToken, in_box};
-use crate::decl_token::take_in_unit;
-use crate::function_reader::FunctionReader;
-use crate::record_reader::RecordReader;
+use crate::decl_begin::after_token;
+use crate::decl_prefix::{DeclExpected, FixedToken};
 use std::alloc::{AllocError, Global};
 use std::mem;
+use um_decls::{FunctionReader, RecordReader, in_box, push_found, take_in_unit};
 use um_reader::{Reader, Taken};
 use um_syntax::{Keyword, Kind, Symbol, Token};
 use um_tree::{Name, RawDecl, RawUnit};
 use um_types::{UnitReader, name_of};
 
-/// Where a declaration stands.
+/// How far a declaration was read.
 #[derive(Drop)]
 pub enum DeclPlace {
-    /// What was read has refused a token, and nothing ends there
+    /// What was read has refused a token, and no declaration ends there
     Nothing,
     /// Before the name
     At(DeclExpected),
     /// A measure, at its name, that may be whole; in its unit text
     Base(u32, Name),
     Short(u32, Name, Box<UnitReader>),
-    /// Behind the name of a record; of a function
+    /// After the name of a record; of a function
     Record(Box<RecordReader>),
     Function,
 }
@@ -49,7 +46,7 @@ pub struct DeclReader {
     function: FunctionReader,
 }
 
-// An abbreviation, where its unit text was found.
+// An abbreviation, if its unit text was found.
 fn short_found(at: u32, name: Name, found: Option<RawUnit>) -> Option<RawDecl>
     ensures { option_map decl_syntax result ≡ short_found at name (option_map unit_syntax found) }
 {
@@ -59,7 +56,7 @@ fn short_found(at: u32, name: Name, found: Option<RawUnit>) -> Option<RawDecl>
     }
 }
 
-// A measure goes behind these declarations.
+// A measure is added to these declarations.
 #[inline(never)]
 fn end_base(at: u32, name: Name, decls: &mut Vec<RawDecl>) -> Result<bool, AllocError>
     ensures { IfOk result (λ whole. Ends (Some (base_syntax at name)) whole decls.old.items decls.new.items) }
@@ -67,7 +64,7 @@ fn end_base(at: u32, name: Name, decls: &mut Vec<RawDecl>) -> Result<bool, Alloc
     push_found(decls, Some(RawDecl::Base(at, name)))
 }
 
-// An abbreviation goes behind these declarations, if its unit text is whole. Whether it is.
+// An abbreviation is added to these declarations, if its unit text is whole. Answers whether it is.
 #[inline(never)]
 fn end_short(
     alloc: Global,
@@ -117,7 +114,7 @@ impl DeclReader {
         }
     }
 
-    /// A declaration begins, whatever was read.
+    /// Another declaration begins, whatever was read.
     pub fn restart(&mut self)
         ensures start { reader_state self.new ≡ Expects DeclBegin }
     {
@@ -131,7 +128,8 @@ impl DeclReader {
         self.put(DeclPlace::Nothing);
     }
 
-    /// One token more. Where it is refused, what is left of it begins a declaration as it does. Most tokens stand in functions.
+    /// One token more. A token that is refused still begins a declaration as it did, though its letters may be gone.
+    /// Most tokens stand in functions.
     pub fn take(&mut self, alloc: Global, token: &mut Token) -> Result<Taken, AllocError>
         requires low { decl_least (reader_state self.old) ≤ greatest_height }
         ensures taken { IfOk result (λ t.
@@ -144,7 +142,7 @@ impl DeclReader {
         }
     }
 
-    // One token more, wherever the declaration stands.
+    // One token more, however far the declaration was read.
     #[inline(never)]
     fn take_any(&mut self, alloc: Global, token: &mut Token) -> Result<Taken, AllocError>
         requires low { decl_least (reader_state self.old) ≤ greatest_height }
@@ -165,7 +163,7 @@ impl DeclReader {
         }
     }
 
-    // Where the declaration stands from here on. But for a measure and a record there is nothing to let go.
+    // From now on the declaration was read so far. Only a measure and a record hold something that has to be let go.
     #[inline(always)]
     fn put(&mut self, place: DeclPlace)
         ensures place { self.new.place ≡ place }
@@ -211,14 +209,14 @@ impl DeclReader {
         }
     }
 
-    // The token where no name may stand.
+    // The token at which no name may stand.
     fn take_fixed(&mut self, expected: FixedToken, token: &Token) -> Taken
         requires nothing { decl_finish (reader_state self.old) ≡ None }
         ensures { Gives machine_of_declarations greatest_height NoDecl
             (take_expected (view_fixed expected) (expr_token token.now.kind) token.now.start)
             result (reader_state self.new) }
     {
-        match behind(expected, &token.kind) {
+        match after_token(expected, &token.kind) {
             Some(next) => {
                 self.put(DeclPlace::At(next));
                 Taken::Goes
@@ -286,7 +284,7 @@ impl DeclReader {
         }
     }
 
-    // The name of a function behind `rec`.
+    // The name of a function after `rec`.
     fn take_rec_name(&mut self, alloc: Global, token: &mut Token) -> Taken
         requires nothing { decl_finish (reader_state self.old) ≡ None }
         ensures taken { Gives machine_of_declarations greatest_height NoDecl
@@ -312,20 +310,20 @@ impl DeclReader {
         self.put(DeclPlace::Function);
     }
 
-    // The token behind the name of a measure.
+    // The token after the name of a measure.
     #[inline(never)]
     fn take_base(&mut self, alloc: Global, token: &Token) -> Result<Taken, AllocError>
         ensures { IfOk result (λ t. Gives machine_of_declarations greatest_height (reader_state self.old)
             (base_step self.old.place token.now) t (reader_state self.new)) }
     {
         match mem::replace(&mut self.place, DeclPlace::Nothing) {
-            DeclPlace::Base(at, name) => self.behind_base(alloc, at, name, token),
+            DeclPlace::Base(at, name) => self.after_base(alloc, at, name, token),
             other => Ok(self.stay(other)),
         }
     }
 
-    // The token behind the name of a measure, at its place.
-    fn behind_base(
+    // The token after the name of a measure, at its place.
+    fn after_base(
         &mut self,
         alloc: Global,
         at: u32,
@@ -358,7 +356,8 @@ impl DeclReader {
         }
     }
 
-    /// The declaration where all is read goes behind these, if it is one, and another begins. Whether it is one.
+    /// The declaration of the tokens that were taken is added to these, if they are one, and another begins. Answers
+    /// whether they are one.
     pub fn finish(&mut self, alloc: Global, decls: &mut Vec<RawDecl>) -> Result<bool, AllocError>
         ensures found { IfOk result (λ whole.
             Ends (decl_finish (reader_state self.old)) whole decls.old.items decls.new.items) }

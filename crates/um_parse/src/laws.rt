@@ -6,7 +6,7 @@ pub fn programs_are_unique()
     ensures { ProgramsAreUnique }
 {}
 
-/// The clause of [`crate::parse`] allows one answer to each list of tokens, but for want of memory.
+/// The clause of [`crate::parse`] allows one answer to each list of tokens, apart from want of memory.
 pub fn answers_are_unique()
     ensures { AnswersAreUnique }
 {}

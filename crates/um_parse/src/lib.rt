@@ -7,17 +7,12 @@
 #![tactic(auto)]
 
 mod decl_begin;
-mod decl_end;
 mod decl_prefix;
 mod decl_reader;
-mod decl_token;
-mod decl_vars;
-mod function_reader;
 pub mod laws;
 mod limits;
 mod program_parse;
 mod program_reader;
-mod record_reader;
 
 pub use program_parse::{parse, parse_tokens};
 pub use um_types::{LimitKind, ParseStop, parse_types, parse_unit};

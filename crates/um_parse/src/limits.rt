@@ -1,6 +1,7 @@
 // The limits of a program besides its height.
 ghost use Rattle.std.specs.Prelude.{◌≡◌, ◌<◌, ◌^◌, [], map};
-ghost use Rattle.um_tree.specs.RawTree.{var_syntax, field_decl_syntax, record_decl_syntax, function_syntax, whole_function_syntax, decl_syntax, expr_syntax};
+ghost use Rattle.um_tree.specs.RawTree.{var_syntax, field_decl_syntax, record_decl_syntax, function_syntax};
+ghost use Rattle.um_tree.specs.RawTree.{whole_function_syntax, decl_syntax, expr_syntax};
 ghost use Rattle.um_tree.specs.Heights.{expr_nodes};
 ghost use Rattle.um_parse.specs.ProgramLimits.{passed_limit, functions_in, name_place};
 ghost use Rattle.um_parse.specs.ProgramNodes.{decl_nodes, program_nodes};
@@ -29,7 +30,8 @@ pub struct Passed {
 
 // The first limit that a record passes.
 fn record_limit(vars: &RawVars, fields: &RawFieldDecls) -> Option<LimitKind>
-    ensures { result ≡ passed_limit 0 (record_decl_syntax 0 [] (map var_syntax vars.now.items.items) (map field_decl_syntax fields.now.items.items)) }
+    ensures { result ≡ passed_limit 0
+        (record_decl_syntax 0 [] (map var_syntax vars.now.items.items) (map field_decl_syntax fields.now.items.items)) }
 {
     if fields.items.len() > MOST_FIELDS {
         Some(LimitKind::Fields)
@@ -40,7 +42,7 @@ fn record_limit(vars: &RawVars, fields: &RawFieldDecls) -> Option<LimitKind>
     }
 }
 
-// The first limit that a function passes behind so many functions.
+// The first limit that a function passes after so many functions.
 fn function_limit(before: usize, function: &RawFunction) -> Option<LimitKind>
     requires few { expr_nodes (expr_syntax function.now.body) < 2 ^ 32 }
     ensures { result ≡ passed_limit before (function_syntax (whole_function_syntax function.now)) }
@@ -58,7 +60,7 @@ fn function_limit(before: usize, function: &RawFunction) -> Option<LimitKind>
     }
 }
 
-// The first limit that a declaration passes behind so many functions.
+// The first limit that a declaration passes after so many functions.
 fn passed_limit(before: usize, decl: &RawDecl) -> Option<LimitKind>
     requires few { decl_nodes (decl_syntax decl.now) < 2 ^ 32 }
     ensures { result ≡ passed_limit before (decl_syntax decl.now) }
@@ -90,7 +92,7 @@ fn functions_in(decl: &RawDecl) -> usize
     }
 }
 
-/// The limit that the first declaration that passes one passes first.
+/// The first limit that is passed by the first declaration that passes one.
 pub fn first_passed(decls: &[RawDecl]) -> Option<Passed>
     requires few { program_nodes (map decl_syntax decls.now) < 2 ^ 32 }
     ensures { LimitPassed (map decl_syntax decls.now) result }

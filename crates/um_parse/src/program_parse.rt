@@ -1,13 +1,10 @@
 // Parsing a program, with the places of its refusals in the text.
-ghost use Rattle.std.specs.Prelude.{◌<◌, ◌≤◌, ◌^◌, IfOk, length};
+ghost use Rattle.std.specs.Prelude.{◌<◌, ◌≤◌, ◌^◌, length};
 ghost use Rattle.um_tree.specs.RawTree.{program_syntax};
 ghost use Rattle.um_reader.specs.ReadTo.{ReadAll};
-ghost use Rattle.um_reader.specs.Takes.{Takes};
 ghost use Rattle.um_types.specs.UnitStops.{greatest_height};
 ghost use Rattle.um_parse.specs.DeclGrammar.{IsProgram};
 ghost use Rattle.um_parse.specs.ProgramHeights.{program_height};
-ghost use Rattle.um_parse.specs.ProgramLeast.{program_least, machine_of_programs};
-ghost use Rattle.um_parse.specs.DeclTakes.{program_state};
 ghost use Rattle.um_parse.specs.ProgramNodes.{program_nodes};
 ghost use Rattle.um_parse.specs.Parsed.{Parsed, ReadAt, Limited};
 
@@ -19,7 +16,7 @@ use um_syntax::{Token, Tokens};
 use um_tree::RawProgram;
 use um_types::{LimitKind, ParseStop, place};
 
-// The program, where it passes no limit besides its height.
+// The program, if it passes no limit besides its height.
 fn limited(program: RawProgram) -> Result<RawProgram, ParseStop>
     requires few { program_nodes (program_syntax program) < 2 ^ 32 }
     ensures { Limited (program_syntax program) result }
@@ -45,19 +42,21 @@ fn read_program(alloc: Global, tokens: &[Token]) -> Result<RawProgram, ReadStop>
 
 /// The program that the tokens are, as it is written. `end` is the length of the text in bytes.
 ///
-/// The height of a program is the greatest of the heights of its expressions, type texts and unit texts, each by itself. The
-/// other limits are 2,000 functions, 16 parameters of a function, 32 fields of a record, 4 unit parameters of a record or a
-/// function, and 20,000 nodes of a body. The grammar is that of F# for the forms that this language has.
+/// The height of a program is the greatest of the heights of its expressions, type texts and unit texts, each by
+/// itself. The other limits are 2,000 functions, 16 parameters of a function, 32 fields of a record, 4 unit parameters
+/// of a record or a function, and 20,000 nodes of a body. The grammar is that of F# for the forms that this language
+/// has.
 ///
 /// # Errors
 ///
-/// Of the first two the one whose place is further left; `NoMemory` may come with any tokens.
+/// The one of the first two whose place is further left; `NoMemory` may come with any tokens.
 ///
-/// - `Syntax` at the first token such that the tokens before it begin a program and those through it begin none; at `end` where
-///   all tokens begin one and are none.
+/// - `Syntax` at the first token such that the tokens before it begin a program and those through it begin none; at
+///   `end` if all tokens begin one and are none.
 /// - `Limit` with `Height` at the first token through which the tokens begin a program and none of height at most 400.
-/// - `Limit` with `Functions`, `Parameters`, `Fields`, `UnitParameters` or `Nodes` where the tokens are a program of height at
-///   most 400, at the name of the first declaration that passes one of these, which are looked at in this order.
+/// - `Limit` with `Functions`, `Parameters`, `Fields`, `UnitParameters` or `Nodes` if the tokens are a program whose
+///   height is at most 400, at the name of the first declaration that passes one of these limits. They are tried in
+///   this order.
 pub fn parse(alloc: Global, tokens: &[Token], end: u32) -> Result<RawProgram, ParseStop>
     requires text { length tokens.now ≤ end }
     ensures parsed { Parsed tokens.now end result }
@@ -120,8 +119,8 @@ fn read_tokens(alloc: Global, tokens: Tokens, end: u32) -> Result<RawProgram, Pa
     program
 }
 
-/// The program that the tokens are, as [`parse`] gives it, and with its errors. The tokens are handed over: a name moves from
-/// its token to the program.
+/// The program that the tokens are, as [`parse`] gives it, and with its errors. The tokens are handed over: a name
+/// moves from its token to the program.
 pub fn parse_tokens(alloc: Global, tokens: Tokens, end: u32) -> Result<RawProgram, ParseStop>
     requires text { length tokens ≤ end }
     ensures parsed { Parsed tokens end result }

@@ -1,7 +1,7 @@
 // A program that is read one token at a time.
 ghost use Rattle.std.specs.Prelude.{◌≡◌, ◌≤◌, IfOk, Some, None, cond, map, option_map};
 ghost use Rattle.um_tree.specs.RawTree.{decl_syntax, program_syntax};
-ghost use Rattle.um_parse.specs.DeclMachine.{program_found};
+ghost use Rattle.um_decls.specs.DeclMachine.{program_found};
 
 use crate::decl_reader::DeclReader;
 use std::alloc::{AllocError, Global};
@@ -33,17 +33,20 @@ impl ProgramReader {
     ghost use Rattle.um_tree.specs.RawTree.{DeclSyntax};
     ghost use Rattle.um_reader.specs.Takes.{Gives, Takes};
     ghost use Rattle.um_types.specs.UnitStops.{greatest_height};
-    ghost use Rattle.um_parse.specs.DeclMachine.{DeclBegin, Expects, ProgramState, decl_step, decl_finish, next_decl, at_start, program_finish};
+    ghost use Rattle.um_decls.specs.DeclMachine.{DeclBegin, Expects, ProgramState, decl_step, decl_finish, next_decl};
+    ghost use Rattle.um_decls.specs.DeclMachine.{at_start, program_finish};
     ghost use Rattle.um_parse.specs.ProgramHeights.{decl_height, program_height};
     ghost use Rattle.um_parse.specs.ProgramLeast.{program_least, machine_of_programs};
-    ghost use Rattle.um_parse.specs.DeclTakes.{reader_state, program_state};
+    ghost use Rattle.um_parse.specs.ReaderStates.{reader_state, program_state};
 
     // The first token of a declaration.
     #[inline(never)]
     fn begin(&mut self, alloc: Global, token: &mut Token) -> Result<Taken, AllocError>
         requires start { at_start (reader_state self.old.last) ≡ true }
         requires low { program_least (program_state self.old) ≤ greatest_height }
-        ensures { IfOk result (λ t. Takes machine_of_programs greatest_height (program_state self.old) token.old t (program_state self.new)) }
+        ensures { IfOk result
+            (λ t. Takes machine_of_programs greatest_height (program_state self.old) token.old t
+            (program_state self.new)) }
     {
         match self.last.take(alloc, token)? {
             Taken::Goes => Ok(Taken::Goes),
@@ -59,8 +62,13 @@ impl ProgramReader {
     #[inline(never)]
     fn next_decl(&mut self, alloc: Global, token: &mut Token) -> Result<Taken, AllocError>
         requires decls { program_height (map decl_syntax self.old.decls.items) ≤ greatest_height }
-        requires last { (d : DeclSyntax) → decl_finish (reader_state self.old.last) ≡ Some d → decl_height d ≤ greatest_height }
-        ensures { IfOk result (λ t. (old : ProgramState) → program_finish old ≡ program_found (map decl_syntax self.old.decls.items) (decl_finish (reader_state self.old.last)) → Gives machine_of_programs greatest_height old (next_decl (map decl_syntax self.old.decls.items) (decl_finish (reader_state self.old.last)) (decl_step (Expects DeclBegin) token.old)) t (program_state self.new)) }
+        requires last { (d : DeclSyntax) → decl_finish (reader_state self.old.last) ≡ Some d → decl_height d
+            ≤ greatest_height }
+        ensures { IfOk result
+            (λ t. (old : ProgramState) → program_finish old ≡ program_found (map decl_syntax self.old.decls.items)
+            (decl_finish (reader_state self.old.last)) → Gives machine_of_programs greatest_height old
+            (next_decl (map decl_syntax self.old.decls.items) (decl_finish (reader_state self.old.last))
+            (decl_step (Expects DeclBegin) token.old)) t (program_state self.new)) }
     {
         let whole = self.last.finish(alloc, &mut self.decls)?;
         if whole {
@@ -78,9 +86,9 @@ impl Reader for ProgramReader {
     ghost use Rattle.um_tree.specs.RawTree.{DeclSyntax, program_syntax};
     ghost use Rattle.um_reader.specs.Takes.{Takes};
     ghost use Rattle.um_types.specs.UnitStops.{greatest_height};
-    ghost use Rattle.um_parse.specs.DeclMachine.{ProgramState, program_finish};
+    ghost use Rattle.um_decls.specs.DeclMachine.{ProgramState, program_finish};
     ghost use Rattle.um_parse.specs.ProgramLeast.{program_least, machine_of_programs};
-    ghost use Rattle.um_parse.specs.DeclTakes.{program_state};
+    ghost use Rattle.um_parse.specs.ReaderStates.{program_state};
 
     type Token = Token;
 
@@ -111,7 +119,9 @@ impl Reader for ProgramReader {
 
     fn take(&mut self, alloc: Global, token: &mut Token) -> Result<Taken, AllocError>
         requires low { program_least (program_state self.old) ≤ greatest_height }
-        ensures taken { IfOk result (λ t. Takes machine_of_programs greatest_height (program_state self.old) token.old t (program_state self.new)) }
+        ensures taken { IfOk result
+            (λ t. Takes machine_of_programs greatest_height (program_state self.old) token.old t
+            (program_state self.new)) }
     {
         if self.last.is_at_start() {
             return self.begin(alloc, token);

@@ -15,7 +15,7 @@ BeginsTextWithin {T} {A} Is height limit tokens =
 abbrev pub IsUnambiguous : {T A : Type 0} → (List T → A → Type 0) → Type 0
 IsUnambiguous {T} {A} Is = (tokens : List T) (t u : A) → Is tokens t → Is tokens u → t ≡ u
 
--- the tree that has the tokens, or none where no tree has them
+-- the tree that has the tokens, or none if no tree has them
 abbrev pub IsTreeOf : {T A : Type 0} → (List T → A → Type 0) → List T → Option A → Type 0
 IsTreeOf {T} {A} Is tokens (Some t) = Is tokens t
 IsTreeOf {T} {A} Is tokens None = (t : A) → Is tokens t → ⊥

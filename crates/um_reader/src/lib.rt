@@ -1,6 +1,6 @@
 //! Readers that take one token at a time, and the loop over the tokens for any of them.
 //!
-//! A reader stands for a machine. Where the machine reads a grammar, what [`read`] and [`read_all`] answer has the exact
+//! A reader stands for a machine. If the machine reads a grammar, what [`read`] and [`read_all`] answer has the exact
 //! places of that grammar: `Stops` says which, and no two answers stand together.
 //!
 //! ```

@@ -8,7 +8,7 @@ use std::alloc::{AllocError, Global};
 
 /// A text that is read one token at a time, in place.
 ///
-/// What a reader keeps of a token it moves out of it, so that nothing is copied.
+/// A reader moves what it keeps of a token out of it, so nothing is copied.
 pub trait Reader {
     type Token: Drop;
 
@@ -32,16 +32,17 @@ pub trait Reader {
     fn new(alloc: Global) -> Self
         ensures start { Self.state_in result ≡ Self.machine.start };
 
-    /// One token more. What is left of it is the reader's to say.
+    /// One token more. What is left of the token, the reader says.
     fn take(&mut self, alloc: Global, token: &mut Self::Token) -> Result<Taken, AllocError>
         requires low { Self.machine.least (Self.state_in self.old) ≤ Self.limit }
-        ensures taken { IfOk result (λ t. Takes Self.machine Self.limit (Self.state_in self.old) token.old t (Self.state_in self.new)) };
+        ensures taken { IfOk result
+            (λ t. Takes Self.machine Self.limit (Self.state_in self.old) token.old t (Self.state_in self.new)) };
 
     /// The same token, copied.
     fn copy(alloc: Global, token: &Self::Token) -> Result<Self::Token, AllocError>
         ensures copied { IfOk result (λ t. t ≡ token.now) };
 
-    /// The tree where all is read, if it is one.
+    /// The tree of the tokens that were taken, if they are one.
     fn finish(self, alloc: Global) -> Result<Option<Self::Tree>, AllocError>
         ensures found { IfOk result (λ o. option_map Self.view o ≡ Self.machine.finish (Self.state_in self)) };
 

@@ -11,7 +11,7 @@ use std::alloc::{AllocError, Global};
 /// Why tokens are not read. The numbers of tokens count from 0; that of the end is the number of tokens.
 #[derive(Clone, Copy, Debug)]
 pub enum ReadStop {
-    /// Up to this token, which is refused, or up to the end stands no text.
+    /// The tokens before this one, which is refused, or all tokens if it is the end, are no text.
     Syntax(usize),
     /// The tokens through this one begin texts, but none within the height.
     High(usize),
@@ -26,7 +26,7 @@ impl From<AllocError> for ReadStop {
     }
 }
 
-// The tree up to this token, or that there is none.
+// The tree of the tokens before this one, or that they are none.
 fn ended_at<A>(found: Option<A>, k: usize) -> Result<(A, usize), ReadStop>
     ensures { result ≡ ended_at found k }
 {
@@ -36,7 +36,7 @@ fn ended_at<A>(found: Option<A>, k: usize) -> Result<(A, usize), ReadStop>
     }
 }
 
-// One token more, which stays as it is: the reader takes a copy of it.
+// One token more, of which the reader takes a copy.
 fn take_copy<R: Reader + Drop>(
     alloc: Global,
     reader: &mut R,
@@ -52,7 +52,8 @@ fn take_copy<R: Reader + Drop>(
     taken
 }
 
-/// Reads up to the stop: the first token that is refused, or the end. Gives the tree up to it, and its number.
+/// Reads up to the stop: the first token that is refused, or the end. Gives the tree of the tokens before it, and its
+/// number.
 pub fn read<R: Reader + Drop>(
     alloc: Global,
     tokens: &[R::Token],

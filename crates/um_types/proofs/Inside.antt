@@ -30,7 +30,7 @@ have_type depth t e = cc
 pub note_low : (depth : ℕ) (owner : Owner) (old mid : NoteState) (token : Token) → type_least (InNote depth owner old) ≤ greatest_height → Takes machine_of_notes greatest_height old token taken.Stops mid → IsLow (InNote depth owner mid)
 note_low depth owner old mid token low t = (omega (arith, low), (λ m e. let same = note_found_height old m (sym t.1 ∙ e) in omega (arith, low, same)))
 
--- a comma behind a note
+-- a comma after a note
 pub comma_behind : (depth at : ℕ) (name : List ℕ) (earlier new : List RawNote) (note : RawNote) → new ≡ earlier ++ note ∷ []
     → InNote depth (OfName at name (map note_syntax new)) NeedNote ≡ next_note depth (OfName at name (map note_syntax earlier)) (note_syntax note)
 comma_behind depth at name earlier new note pushed =
@@ -42,7 +42,7 @@ heights_last : (earlier : List TypeSyntax) (t : TypeSyntax) → all_height earli
 heights_last [] t low high = omega arith
 heights_last (u ∷ us) t low high = let rest = heights_last us t (omega (arith, low)) high in omega (arith, low, rest)
 
--- `->` behind a type
+-- `->` after a type
 pub arrow_behind : (earlier new : List RawType) (t : RawType) (s last : TypeState) → type_finish s ≡ Some (type_syntax t) → new ≡ earlier ++ t ∷ [] → last ≡ NeedType 0
     → all_height (map type_syntax earlier) ≤ greatest_height → whole_height (type_syntax t) ≤ greatest_height
     → Gives machine_of_signatures greatest_height (InType (map type_syntax earlier) s) (type_ends (map type_syntax earlier) (type_finish s) (kind.Sign symbol.Arrow)) taken.Goes (InType (map type_syntax new) last)

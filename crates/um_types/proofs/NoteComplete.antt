@@ -76,7 +76,7 @@ pub note_finds : (n : NoteSyntax) → NoteFits n → note_finish (note_into n) �
 note_finds (hole_syntax at) fits = refl
 note_finds (unit_note_syntax at u) fits = ap (noted at) (unit_finds u fits)
 
--- and what stands in no unit text is refused behind it
+-- and what stands in no unit text is refused after it
 pub note_stops : (n : NoteSyntax) (k : Kind) (at : ℕ) → is_foreign (unit_token k) ≡ true → note_act (note_into n) k at ≡ NoNote
 note_stops (hole_syntax place) k at e = refl
 note_stops (unit_note_syntax place u) k at e = ap (unit_goes place) (foreign_refused (into [] u) (unit_token k) at e)

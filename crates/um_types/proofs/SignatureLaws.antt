@@ -27,7 +27,7 @@ use Rattle.um_types.proofs.TypeLaws.{type_ending, type_completed, type_can_end, 
 abbrev SignatureReaches : SignatureState → List Token → SignatureState → List Token → Type 0
 SignatureReaches old tokens new rest = Reaches signature_step NoSignature old tokens new rest
 
--- the state once types were read behind others
+-- the state once types were read after others
 abbrev signature_into : List TypeSyntax → TypeSyntax → List TypeSyntax → SignatureState
 signature_into earlier t [] = InType earlier (HaveType 0 t)
 signature_into earlier t (u ∷ us) = signature_into (earlier ++ t ∷ []) u us
@@ -81,7 +81,7 @@ finds_signature tokens (t ∷ ts) p =
 
 -- ---- what was read stands
 
--- each type with the arrow behind it
+-- each type with the arrow after it
 abbrev FrontSpells : List TypeSyntax → List Token → List Token → Type 0
 FrontSpells [] tokens rest = tokens ≡ rest
 FrontSpells (t ∷ ts) tokens rest = (mid next : List Token) × TypeSpells t tokens mid × FirstSign symbol.Arrow mid next × FrontSpells ts next rest

@@ -9,7 +9,7 @@ place_at [] i end x lt same = absurd (omega (arith, lt))
 place_at (t ∷ ts) zero end x lt same = ap (λ (y : Token). y.start) same
 place_at (t ∷ ts) (suc i) end x lt same = place_at ts i end x (omega (arith, lt)) same
 
--- behind all tokens
+-- after all tokens
 pub place_behind : (tokens : List Token) (end : ℕ) → place_of tokens (length tokens) end ≡ end
 place_behind [] end = refl
 place_behind (t ∷ ts) end = place_behind ts end

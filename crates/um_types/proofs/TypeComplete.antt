@@ -42,7 +42,7 @@ goes_with : (depth : ℕ) (t : TypeSyntax) (what : Kind) (new : TypeState) (toke
     → TypeReaches (HaveType depth t) tokens new rest
 goes_with depth t what new tokens rest f step ok = reaches_one type_step NoType (HaveType depth t) new f.0 tokens rest f.2 (ap (type_after depth t) f.1 ∙ step) ok
 
--- the token behind a note
+-- the token after a note
 ends_with : (depth : ℕ) (owner : Owner) (n : NoteSyntax) (what : Kind) (new : TypeState) (tokens rest : List Token) → NoteFits n → FirstKind what tokens rest
     → is_foreign (unit_token what) ≡ true → note_end depth owner n what ≡ new → new ≢ NoType
     → TypeReaches (InNote depth owner (note_into n)) tokens new rest
@@ -96,7 +96,7 @@ reads_notes (m ∷ ns) n depth at x earlier tokens mid rest s fits f =
     (subst (λ w. TypeReaches (InNote depth more NeedNote) s.1 (HaveType depth (record_syntax at x w)) rest) parts (reads_notes ns m depth at x (earlier ++ n ∷ []) s.1 mid rest s.4 fits.1 f))
     )
 
--- angle brackets behind a name, if there are notes
+-- angle brackets after a name, if there are notes
 reads_angled : (ns : List NoteSyntax) (depth at : ℕ) (x : List ℕ) (tokens rest : List Token) → AngledSpell ns tokens rest → NotesFit ns
     → TypeReaches (HaveType depth (record_syntax at x [])) tokens (HaveType depth (record_syntax at x ns)) rest
 reads_angled [] depth at x tokens rest s fits = ([], s, refl, have_is depth (record_syntax at x []))
@@ -106,7 +106,7 @@ reads_angled (n ∷ ns) depth at x tokens rest s fits =
     (goes_with depth (record_syntax at x []) (kind.Sign symbol.Less) start tokens s.0 s.2 refl (note_is depth (OfName at x []) NeedNote))
     (reads_notes ns n depth at x [] s.0 s.1 rest s.3 fits s.4)
 
--- and behind `num`
+-- and after `num`
 reads_note_of_num : (o : Option NoteSyntax) (depth : ℕ) (tokens rest : List Token) → AngledSpell (at_most_one o) tokens rest → NotesFit (at_most_one o)
     → TypeReaches (HaveType depth (num_syntax None)) tokens (HaveType depth (num_syntax o)) rest
 reads_note_of_num None depth tokens rest s fits = ([], s, refl, have_is depth (num_syntax None))
@@ -159,7 +159,7 @@ ends_type (kind.Sign symbol.Less) = false
 ends_type (kind.Word keyword.List) = false
 ends_type _ = true
 
--- such a token is refused behind a type text that was read from the start
+-- such a token is refused after a type text that was read from the start
 pub type_stops : (t : TypeSyntax) (k : Kind) (at : ℕ) → ends_type k ≡ true → type_act (HaveType 0 t) k at ≡ NoType
 type_stops t (kind.Sign symbol.Less) at e = absurd (false≢true e)
 type_stops t (kind.Word keyword.List) at e = absurd (false≢true e)

@@ -17,7 +17,7 @@ abbrev pub OpenBrackets : ℕ → List Token → List Token → Type 0
 OpenBrackets zero tokens rest = tokens ≡ rest
 OpenBrackets (suc depth) tokens rest = (mid : List Token) × OpenBrackets depth tokens mid × FirstSign symbol.LeftParen mid rest
 
--- each note with the comma behind it
+-- each note with the comma after it
 abbrev pub FrontSpells : List NoteSyntax → List Token → List Token → Type 0
 FrontSpells [] tokens rest = tokens ≡ rest
 FrontSpells (n ∷ ns) tokens rest = (mid next : List Token) × NoteSpells n tokens mid × FirstSign symbol.Comma mid next × FrontSpells ns next rest

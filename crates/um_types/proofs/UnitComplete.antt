@@ -7,7 +7,7 @@ use Rattle.um_syntax.specs.declared.vocabulary.Symbol.TheVariants as symbol
 use Rattle.um_types.specs.UnitGrammar.{First, FirstAt, PowerSpells, Spells, AllSpell, rank, Fits, ArePowers}
 use Rattle.um_types.specs.UnitMachine.{Frame, InBracket, InInverse, InTimes, InOver, InSide, State, Need, Have, Raised, Lowered, Refused, top_limit, opens, reduce, juxtapose, begin, times_after, over_after, close_after, raise, after, act, run}
 
--- behind a front of a juxtaposition, if there is one
+-- after a front of a juxtaposition, if there is one
 abbrev pub inside : List UnitSyntax → List Frame → List Frame
 inside [] frames = frames
 inside (u ∷ us) frames = InSide (u ∷ us) ∷ frames
@@ -79,7 +79,7 @@ rank_low (over_syntax u v) = omega arith
 rank_low (inverse_syntax at u) = omega arith
 rank_low (bracket_syntax at u) = omega arith
 
--- ---- signs behind a unit that was read
+-- ---- signs after a unit that was read
 
 on_times : (st : State) (at : ℕ) → act st (sign symbol.Star) at ≡ times_after (red st)
 on_times (Need frames) at = refl
@@ -162,7 +162,7 @@ then_at : (st new : State) (what : UnitToken) (at : ℕ) (tokens rest : List Tok
 then_at st new what at tokens rest f e =
     ap (run st) f.3 ∙ ap (λ w. run (act st w f.0.start) rest) f.1 ∙ ap (λ a. run (act st what a) rest) f.2 ∙ ap (λ s. run s rest) e
 
--- an atom behind a unit at hand begins inside the juxtaposition
+-- an atom after a unit at hand begins inside the juxtaposition
 same_start : (frames : List Frame) (t : UnitSyntax) (what : UnitToken) (at : ℕ) (tokens rest : List Token) → FirstAt what at tokens rest
     → after frames t what at ≡ begin (juxtapose frames t) what at → run (Have frames t) tokens ≡ run (Need (juxtapose frames t)) tokens
 same_start frames t what at tokens rest f e =

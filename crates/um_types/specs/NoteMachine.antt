@@ -45,7 +45,7 @@ note_act NoNote k at = NoNote
 abbrev pub note_step : NoteState → Token → NoteState
 note_step state token = note_act state token.kind token.start
 
--- the note where all is read
+-- the note, if all is read
 abbrev pub noted : ℕ → Option UnitSyntax → Option NoteSyntax
 noted at None = None
 noted at (Some u) = Some (unit_note_syntax at u)

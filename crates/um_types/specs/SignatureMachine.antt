@@ -10,12 +10,12 @@ use Rattle.um_tree.specs.RawTree.{TypeSyntax}
 use Rattle.um_types.specs.TypeHeights.{all_height}
 use Rattle.um_types.specs.TypeMachine.{TypeState, NeedType, HaveType, InNote, NoType, type_act, type_finish, type_least}
 
--- a type text behind these
+-- a type text after these
 pub data SignatureState : Type 0 where
   InType : (earlier : List TypeSyntax) (type : TypeState) → SignatureState
   NoSignature : SignatureState
 
--- the token behind a type
+-- the token after a type
 abbrev pub type_end : List TypeSyntax → TypeSyntax → Kind → SignatureState
 type_end earlier t (kind.Sign symbol.Arrow) = InType (earlier ++ t ∷ []) (NeedType 0)
 type_end earlier t _ = NoSignature
@@ -43,7 +43,7 @@ abbrev pub typed : List TypeSyntax → Option TypeSyntax → Option (List TypeSy
 typed earlier None = None
 typed earlier (Some t) = Some (earlier ++ t ∷ [])
 
--- the types where all is read
+-- the types, if all is read
 abbrev pub signature_finish : SignatureState → Option (List TypeSyntax)
 signature_finish (InType earlier s) = typed earlier (type_finish s)
 signature_finish NoSignature = None

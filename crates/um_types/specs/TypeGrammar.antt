@@ -12,7 +12,8 @@ use Rattle.um_syntax.specs.declared.vocabulary.Keyword.{Keyword}
 use Rattle.um_syntax.specs.declared.vocabulary.Keyword.TheVariants as keyword
 use Rattle.um_syntax.specs.declared.vocabulary.Symbol.{Symbol}
 use Rattle.um_syntax.specs.declared.vocabulary.Symbol.TheVariants as symbol
-use Rattle.um_tree.specs.RawTree.{NoteSyntax, hole_syntax, unit_note_syntax, TypeSyntax, bool_syntax, num_syntax, record_syntax, list_type_syntax, bracket_type_syntax}
+use Rattle.um_tree.specs.RawTree.{NoteSyntax, hole_syntax, unit_note_syntax, TypeSyntax, bool_syntax, num_syntax}
+use Rattle.um_tree.specs.RawTree.{record_syntax, list_type_syntax, bracket_type_syntax}
 use Rattle.um_types.specs.UnitGrammar.{Spells, Fits}
 
 -- the first token is of this kind, and the others are the rest
@@ -54,7 +55,7 @@ NotesSpell (n ∷ m ∷ ns) tokens rest =
     (mid next : List Token) × NoteSpells n tokens mid × FirstSign symbol.Comma mid next
     × NotesSpell (m ∷ ns) next rest
 
--- notes in angle brackets, or nothing where there are none
+-- notes in angle brackets, or nothing if there are none
 abbrev pub AngledSpell : List NoteSyntax → List Token → List Token → Type 0
 AngledSpell [] tokens rest = tokens ≡ rest
 AngledSpell (n ∷ ns) tokens rest =

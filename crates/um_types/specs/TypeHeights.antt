@@ -1,7 +1,8 @@
 -- The heights in a note and in a type text, each unit text and each type text by itself.
 -- Source: this project's own limits.
 use Rattle.std.specs.Prelude.{ℕ, max, List, [], ◌∷◌, Some, None}
-use Rattle.um_tree.specs.RawTree.{NoteSyntax, hole_syntax, unit_note_syntax, TypeSyntax, bool_syntax, num_syntax, record_syntax, list_type_syntax, bracket_type_syntax}
+use Rattle.um_tree.specs.RawTree.{NoteSyntax, hole_syntax, unit_note_syntax, TypeSyntax, bool_syntax, num_syntax}
+use Rattle.um_tree.specs.RawTree.{record_syntax, list_type_syntax, bracket_type_syntax}
 use Rattle.um_tree.specs.Heights.{unit_height, type_height}
 
 -- the height of the unit text in a note, if there is one

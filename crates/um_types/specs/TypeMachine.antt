@@ -9,7 +9,8 @@ use Rattle.um_syntax.specs.declared.token.Kind.TheVariants as kind
 use Rattle.um_syntax.specs.declared.vocabulary.Keyword.TheVariants as keyword
 use Rattle.um_syntax.specs.declared.vocabulary.Symbol.TheVariants as symbol
 use Rattle.um_reader.specs.Machine.{Machine}
-use Rattle.um_tree.specs.RawTree.{NoteSyntax, TypeSyntax, bool_syntax, num_syntax, record_syntax, list_type_syntax, bracket_type_syntax}
+use Rattle.um_tree.specs.RawTree.{NoteSyntax, TypeSyntax, bool_syntax, num_syntax, record_syntax, list_type_syntax}
+use Rattle.um_tree.specs.RawTree.{bracket_type_syntax}
 use Rattle.um_tree.specs.Heights.{type_height}
 use Rattle.um_types.specs.TypeHeights.{notes_height, units_height}
 use Rattle.um_types.specs.NoteMachine.{NoteState, NeedNote, HaveHole, InUnit, NoNote, note_act, note_finish, note_least}
@@ -33,7 +34,7 @@ type_begin depth (kind.Word keyword.Bool) at = HaveType depth bool_syntax
 type_begin depth (kind.Sign symbol.LeftParen) at = NeedType (suc depth)
 type_begin depth _ at = NoType
 
--- what angle brackets may open behind: `num`, and a name
+-- what angle brackets may open after: `num`, and a name
 abbrev pub angle_owner : TypeSyntax → Option Owner
 angle_owner (num_syntax None) = Some OfNum
 angle_owner (num_syntax (Some n)) = None
@@ -65,12 +66,12 @@ abbrev pub owned : Owner → NoteSyntax → TypeSyntax
 owned OfNum n = num_syntax (Some n)
 owned (OfName at x earlier) n = record_syntax at x (earlier ++ n ∷ [])
 
--- a comma behind a note
+-- a comma after a note
 abbrev pub next_note : ℕ → Owner → NoteSyntax → TypeState
 next_note depth OfNum n = NoType
 next_note depth (OfName at x earlier) n = InNote depth (OfName at x (earlier ++ n ∷ [])) NeedNote
 
--- the token behind a note
+-- the token after a note
 abbrev pub note_end : ℕ → Owner → NoteSyntax → Kind → TypeState
 note_end depth owner n (kind.Sign symbol.Greater) = HaveType depth (owned owner n)
 note_end depth owner n (kind.Sign symbol.Comma) = next_note depth owner n
@@ -105,7 +106,7 @@ own_act (HaveType depth t) k at = type_after depth t k
 own_act (InNote depth owner n) k at = note_ends depth owner (note_finish n) k
 own_act NoType k at = NoType
 
--- the type text where all is read
+-- the type text, if all is read
 abbrev pub type_finish : TypeState → Option TypeSyntax
 type_finish (HaveType zero t) = Some t
 type_finish (HaveType (suc depth) t) = None

@@ -7,7 +7,8 @@ use Rattle.um_types.specs.UnitStops.{greatest_height}
 use Rattle.um_types.specs.TypeHeights.{note_height}
 use Rattle.um_types.specs.NoteMachine.{note_finish}
 use Rattle.um_types.specs.NoteView.{note_state}
-use Rattle.um_types.specs.TypeMachine.{Owner, OfNum, OfName, TypeState, NeedType, HaveType, InNote, NoType, angle_owner, owner_height, type_least}
+use Rattle.um_types.specs.TypeMachine.{Owner, OfNum, OfName, TypeState, NeedType, HaveType, InNote, NoType, angle_owner}
+use Rattle.um_types.specs.TypeMachine.{owner_height, type_least}
 use Rattle.um_types.specs.declared.note_reader.NoteReader.{NoteReader}
 use Rattle.um_types.specs.declared.type_operand.TypeOperand.{TypeOperand}
 use Rattle.um_types.specs.declared.type_operand.Owner.{Owner as OwnerPart}
@@ -32,7 +33,7 @@ type_focus_state depth (focus.Note o) n = InNote depth (view_owner o) (note_stat
 abbrev pub type_state : TypeReader → TypeState
 type_state r = type_focus_state r.depth r.focus r.note
 
--- the heights are low where the note, if one has begun, has refused a token
+-- the heights are low after the note, if one has begun, has refused a token
 abbrev pub IsLow : TypeState → Type 0
 IsLow (NeedType depth) = type_least (NeedType depth) ≤ greatest_height
 IsLow (HaveType depth t) = type_least (HaveType depth t) ≤ greatest_height
@@ -41,7 +42,7 @@ IsLow (InNote depth owner n) =
     × ((m : NoteSyntax) → note_finish n ≡ Some m → note_height m ≤ greatest_height)
 IsLow NoType = Unit {0}
 
--- what angle brackets behind a type belong to, or the type again
+-- what angle brackets after a type belong to, or the type again
 abbrev pub Opens : TypeSyntax → Result OwnerPart RawType → Type 0
 Opens t (Ok o) = angle_owner t ≡ Some (view_owner o)
 Opens t (Err same) = (angle_owner t ≡ None) × (type_syntax same ≡ t)

@@ -3,11 +3,13 @@
 --   side  = power { power }                           a leading "/" takes the first side
 --   power = atom [ "^" [ "-" ] Number ]
 --   atom  = Name | Var | "1" | "(" unit ")"
--- Source: the F# specification, chapter Units Of Measure, for the forms of unit texts, without `_` and rational powers. How
--- tightly the signs of units bind is this project's own.
+-- Source: the F# specification, chapter Units Of Measure, for the forms of unit texts, without `_` and rational powers.
+-- How tightly the signs of units bind is this project's own.
 use Rattle.std.specs.Prelude.{◌≡◌, ℕ, ◌≤◌, ℤ, pos, neg_ℤ, Bool, true, ◌⊎◌, List, [], ◌∷◌, Option, Some}
 use Rattle.um_syntax.specs.declared.token.Token.{Token}
-use Rattle.um_tree.specs.RawTree.{UnitSyntax, UnitSyntaxes, one_syntax, measure_syntax, variable_syntax, power_syntax, side_syntax, times_syntax, over_syntax, inverse_syntax, bracket_syntax, no_units, more_units}
+use Rattle.um_tree.specs.RawTree.{UnitSyntax, UnitSyntaxes, one_syntax, measure_syntax, variable_syntax, power_syntax}
+use Rattle.um_tree.specs.RawTree.{side_syntax, times_syntax, over_syntax, inverse_syntax, bracket_syntax, no_units}
+use Rattle.um_tree.specs.RawTree.{more_units}
 use Rattle.um_types.specs.UnitTokens.{UnitToken, sign, measure, variable, number, unit_token}
 use Rattle.um_syntax.specs.declared.vocabulary.Symbol.TheVariants as symbol
 
@@ -24,7 +26,7 @@ FirstAt what at tokens rest =
 abbrev pub Digits : ℕ → List Token → List Token → Type 0
 Digits n tokens rest = (one : Bool) × First (number one (Some n)) tokens rest
 
--- what stands behind `^`: a number, or `-` and a number
+-- what stands after `^`: a number, or `-` and a number
 abbrev pub PowerSpells : ℤ → List Token → List Token → Type 0
 PowerSpells k tokens rest =
     (n : ℕ)

@@ -5,7 +5,8 @@ use Rattle.um_syntax.specs.declared.token.Token.{Token}
 use Rattle.um_reader.specs.Machine.{Machine}
 use Rattle.um_tree.specs.RawTree.{UnitSyntax, units_in_order}
 use Rattle.um_tree.specs.Heights.{unit_height, tallest_unit}
-use Rattle.um_types.specs.UnitMachine.{Frame, InBracket, InInverse, InTimes, InOver, InSide, State, Need, Have, Raised, Lowered, Refused, unit_step, finish}
+use Rattle.um_types.specs.UnitMachine.{Frame, InBracket, InInverse, InTimes, InOver, InSide, State, Need, Have, Raised}
+use Rattle.um_types.specs.UnitMachine.{Lowered, Refused, unit_step, finish}
 
 -- the height of a frame's own parts
 abbrev pub side : Frame → ℕ

@@ -1,9 +1,10 @@
--- Reading a unit text token by token: what is open, and the unit at hand.
+-- Reading a unit text token by token: what is open, and the unit that was read inside it.
 -- Source: operator precedence with a stack, as in Knuth, Fundamental Algorithms, 2.2.1; this project's own states.
 use Rattle.std.specs.Prelude.{ℕ, pos, neg_ℤ, Bool, true, false, cond, List, [], ◌∷◌, ◌++◌, Option, Some, None}
 use Rattle.um_syntax.specs.declared.token.Token.{Token}
 use Rattle.um_reader.specs.Machine.{runs}
-use Rattle.um_tree.specs.RawTree.{UnitSyntax, one_syntax, measure_syntax, variable_syntax, power_syntax, side_syntax, times_syntax, over_syntax, inverse_syntax, bracket_syntax, units_in_order}
+use Rattle.um_tree.specs.RawTree.{UnitSyntax, one_syntax, measure_syntax, variable_syntax, power_syntax, side_syntax}
+use Rattle.um_tree.specs.RawTree.{times_syntax, over_syntax, inverse_syntax, bracket_syntax, units_in_order}
 use Rattle.um_types.specs.UnitTokens.{UnitToken, sign, measure, variable, number, other, unit_token}
 use Rattle.um_syntax.specs.declared.vocabulary.Symbol.TheVariants as symbol
 
@@ -13,15 +14,15 @@ pub data Frame : Type 0 where
   InInverse : (at : ℕ) → Frame
   InTimes : (left : UnitSyntax) → Frame
   InOver : (left : UnitSyntax) → Frame
-  -- behind these of a juxtaposition
+  -- after these of a juxtaposition
   InSide : (earlier : List UnitSyntax) → Frame
 
 pub data State : Type 0 where
   -- an atom is wanted, or a leading `/`
   Need : (frames : List Frame) → State
-  -- an atom or a power is at hand
+  -- an atom or a power was read
   Have : (frames : List Frame) (operand : UnitSyntax) → State
-  -- behind `^`; behind `^` and `-`
+  -- after `^`; after `^` and `-`
   Raised : (frames : List Frame) (base : UnitSyntax) → State
   Lowered : (frames : List Frame) (base : UnitSyntax) → State
   Refused : State
@@ -52,7 +53,7 @@ plug (InTimes left) t = times_syntax left t
 plug (InOver left) t = over_syntax left t
 plug (InSide earlier) t = side_syntax (units_in_order (earlier ++ t ∷ []))
 
--- what is left open where all ends up to the innermost brackets
+-- what is left open once all ends up to the innermost brackets
 abbrev pub reduce : List Frame → UnitSyntax → State
 reduce [] t = Have [] t
 reduce (InBracket at ∷ frames) t = Have (InBracket at ∷ frames) t
@@ -61,7 +62,7 @@ reduce (InTimes left ∷ frames) t = reduce frames (times_syntax left t)
 reduce (InOver left ∷ frames) t = reduce frames (over_syntax left t)
 reduce (InSide earlier ∷ frames) t = reduce frames (side_syntax (units_in_order (earlier ++ t ∷ [])))
 
--- another power follows: the one at hand belongs to a juxtaposition
+-- another power follows: the one that was read belongs to a juxtaposition
 abbrev pub juxtapose : List Frame → UnitSyntax → List Frame
 juxtapose [] t = InSide (t ∷ []) ∷ []
 juxtapose (InBracket at ∷ frames) t = InSide (t ∷ []) ∷ InBracket at ∷ frames
@@ -142,7 +143,7 @@ unit_step state token = act state (unit_token token.kind) token.start
 abbrev pub run : State → List Token → State
 run state tokens = runs unit_step state tokens
 
--- the unit text where all is read
+-- the unit text, if all is read
 abbrev pub whole : State → Option UnitSyntax
 whole (Have [] t) = Some t
 whole _ = None
@@ -178,7 +179,7 @@ is_foreign (sign symbol.Caret) = false
 is_foreign (sign symbol.Minus) = false
 is_foreign _ = true
 
--- `/` or `*` behind what is at hand
+-- `/` or `*` after what was read
 abbrev pub sign_after : Bool → State → State
 sign_after true st = over_after st
 sign_after false st = times_after st

@@ -1,4 +1,4 @@
--- What is open and at hand, without where it lies in memory.
+-- What is open and what was read inside it, without where it lies in memory.
 use Rattle.std.specs.Prelude.{◌≡◌, ℕ, ◌+◌, ◌⊎◌, Bool, true, false, List, [], ◌∷◌, Option, Some, None}
 use Rattle.um_syntax.specs.declared.token.Token.{Token}
 use Rattle.um_tree.specs.Heights.{unit_height}
@@ -9,7 +9,8 @@ use Rattle.um_types.specs.declared.unit_frame.Step.{Step}
 use Rattle.um_types.specs.declared.unit_frame.Step.TheVariants as step
 use Rattle.um_types.specs.declared.unit_frames.Frames.{Frames}
 use Rattle.um_types.specs.declared.unit_reader.UnitReader.{UnitReader}
-use Rattle.um_types.specs.UnitMachine.{Frame, InBracket, InInverse, InTimes, InOver, InSide, State, Need, Have, Raised, Lowered, Refused, finish}
+use Rattle.um_types.specs.UnitMachine.{Frame, InBracket, InInverse, InTimes, InOver, InSide, State, Need, Have, Raised}
+use Rattle.um_types.specs.UnitMachine.{Lowered, Refused, finish}
 use Rattle.um_types.specs.UnitFrames.{operand_syntax, view_frame, stack}
 
 -- the frames from the innermost out
@@ -56,7 +57,7 @@ abbrev pub Unbracketed : List Frame → Option ℕ → List Frame → Type 0
 Unbracketed old (Some at) new = old ≡ InBracket at ∷ new
 Unbracketed old None new = ((old ≡ []) × (new ≡ [])) ⊎ (ends_itself old ≡ true)
 
--- the height of what is at hand; an atom is wanted at least
+-- the height of what was read inside the frames; an atom is wanted at least
 abbrev pub focus_height : Focus → ℕ
 focus_height focus.Empty = 1
 focus_height (focus.Full t) = unit_height (operand_syntax t)

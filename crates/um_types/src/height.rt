@@ -5,7 +5,7 @@ ghost use Rattle.um_types.specs.UnitCount.{counted};
 /// The greatest height of a unit text, a type text and an expression.
 pub const GREATEST_HEIGHT: u32 = 400;
 
-/// One above it. Heights are counted up to here.
+/// One above it. Heights are counted up to this.
 pub const TOO_HIGH: u32 = GREATEST_HEIGHT + 1;
 
 /// The height, counted.

@@ -16,7 +16,7 @@ use um_reader::{Reader, Taken};
 use um_syntax::{Kind, Token};
 use um_tree::{RawNote, RawUnit};
 
-/// What was read of a note: nothing, `_`, or a unit text at this place, which is an atom so far, or goes on.
+/// What was read of a note: nothing, `_`, or a unit text at this place, which is an atom so far or has gone on.
 #[derive(Drop)]
 pub enum NoteFocus {
     Empty,
@@ -25,7 +25,7 @@ pub enum NoteFocus {
     Unit(u32, UnitReader),
 }
 
-/// A note that has begun, behind `<`.
+/// A note that has begun, after `<`.
 #[derive(Drop)]
 pub struct NoteReader {
     focus: NoteFocus,
@@ -50,9 +50,10 @@ impl NoteReader {
         }
     }
 
-    /// One token more, which stays as it was where it is refused.
+    /// One token more, which stays as it was if it is refused.
     pub fn take(&mut self, alloc: Global, token: &mut Token) -> Result<Taken, AllocError>
-        ensures taken { IfOk result (λ t. Takes machine_of_notes greatest_height (note_state self.old) token.old t (note_state self.new)) }
+        ensures taken { IfOk result
+            (λ t. Takes machine_of_notes greatest_height (note_state self.old) token.old t (note_state self.new)) }
         ensures kept { IfOk result (λ t. t ≡ Taken.Stops → token.new ≡ token.old) }
     {
         match &mut self.focus {
@@ -72,10 +73,11 @@ impl NoteReader {
         }
     }
 
-    // One token more, where what was read is moved out.
+    // One token more, for which what was read is moved out.
     #[inline(never)]
     fn take_moved(&mut self, alloc: Global, token: &mut Token) -> Result<Taken, AllocError>
-        ensures taken { IfOk result (λ t. Takes machine_of_notes greatest_height (note_state self.old) token.old t (note_state self.new)) }
+        ensures taken { IfOk result
+            (λ t. Takes machine_of_notes greatest_height (note_state self.old) token.old t (note_state self.new)) }
         ensures kept { IfOk result (λ t. t ≡ Taken.Stops → token.new ≡ token.old) }
     {
         match mem::replace(&mut self.focus, NoteFocus::Empty) {
@@ -85,7 +87,7 @@ impl NoteReader {
                 Ok(Taken::Stops)
             }
             NoteFocus::Atom(at, atom) => {
-                let unit = UnitReader::behind(alloc, atom);
+                let unit = UnitReader::after_atom(alloc, atom);
                 self.take_unit(alloc, at, unit, token)
             }
             NoteFocus::Unit(at, unit) => self.take_unit(alloc, at, unit, token),
@@ -95,7 +97,8 @@ impl NoteReader {
     // The first token.
     fn take_first(&mut self, alloc: Global, token: &mut Token) -> Result<Taken, AllocError>
         requires { note_state self.old ≡ NeedNote }
-        ensures taken { IfOk result (λ t. Takes machine_of_notes greatest_height NeedNote token.old t (note_state self.new)) }
+        ensures taken { IfOk result
+            (λ t. Takes machine_of_notes greatest_height NeedNote token.old t (note_state self.new)) }
         ensures kept { IfOk result (λ t. t ≡ Taken.Stops → token.new ≡ token.old) }
     {
         let at = token.start;
@@ -128,7 +131,9 @@ impl NoteReader {
         unit: UnitReader,
         token: &mut Token,
     ) -> Result<Taken, AllocError>
-        ensures taken { IfOk result (λ t. Takes machine_of_notes greatest_height (InUnit at (unit_state unit)) token.old t (note_state self.new)) }
+        ensures taken { IfOk result
+            (λ t. Takes machine_of_notes greatest_height (InUnit at (unit_state unit)) token.old t
+            (note_state self.new)) }
         ensures kept { IfOk result (λ t. t ≡ Taken.Stops → token.new ≡ token.old) }
     {
         let mut unit = unit;
@@ -144,7 +149,7 @@ impl NoteReader {
         }
     }
 
-    // What was read. Where no unit text was, there is nothing to let go.
+    // From now on this was read. If no unit text was, there is nothing to let go.
     #[inline(always)]
     fn put(&mut self, focus: NoteFocus)
         ensures { self.new.focus ≡ focus }
@@ -159,14 +164,14 @@ impl NoteReader {
         }
     }
 
-    /// A note begins, whatever was read.
+    /// Another note begins, whatever was read.
     pub fn restart(&mut self)
         ensures start { note_state self.new ≡ NeedNote }
     {
         self.put(NoteFocus::Empty);
     }
 
-    /// The note where all is read, if it is one, taken out of the reader.
+    /// The note of the tokens that were taken, if they are one, out of the reader.
     pub fn take_whole(&mut self, alloc: Global) -> Result<Option<RawNote>, AllocError>
         ensures found { IfOk result (λ o. option_map note_syntax o ≡ note_finish (note_state self.old)) }
     {
@@ -187,7 +192,7 @@ impl NoteReader {
         }
     }
 
-    /// The note where all is read, if it is one.
+    /// The note of the tokens that were taken, if they are one.
     pub fn finish(self, alloc: Global) -> Result<Option<RawNote>, AllocError>
         ensures found { IfOk result (λ o. option_map note_syntax o ≡ note_finish (note_state self)) }
     {

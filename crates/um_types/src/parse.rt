@@ -32,7 +32,7 @@ pub enum LimitKind {
     Slots,
 }
 
-/// Why tokens are not read, with the place.
+/// Why tokens are refused, with the place.
 #[derive(Clone, Copy, Debug, PartialEq, Eq, Error)]
 pub enum ParseStop {
     #[error("no text of the grammar begins so, at {at}")]
@@ -59,7 +59,8 @@ fn read_signature(alloc: Global, tokens: &[Token]) -> Result<RawTypes, ReadStop>
 
 /// The unit text that begins at the token of number `from`, and the number of its stop, counted from 0.
 ///
-/// The stop is the first token such that the tokens through it begin no unit text, or the end. `end` is the length of the text.
+/// The stop is the first token such that the tokens through it begin no unit text, or the end. `end` is the length of
+/// the text.
 pub fn parse_unit(
     alloc: Global,
     tokens: &[Token],
@@ -86,17 +87,17 @@ pub fn parse_unit(
 
 /// The types of a signature text: type texts with `->` between two of them, at least one.
 ///
-/// `end` is the length of the text in bytes. The heights of a signature text are those of its types and of the unit texts in
-/// them, each by itself.
+/// `end` is the length of the text in bytes. The heights of a signature text are those of its types and of the unit
+/// texts in them, each by itself.
 ///
 /// # Errors
 ///
-/// Of these two the one whose place is further left; `NoMemory` may come with any tokens.
+/// The one of these two whose place is further left; `NoMemory` may come with any tokens.
 ///
-/// - `Syntax` at the first token such that the tokens before it begin a signature text and those through it begin none; at
-///   `end` where all tokens begin one and are none.
-/// - `Limit` with `Height` at the first token through which the tokens begin a signature text and none in which no height is
-///   above 400.
+/// - `Syntax` at the first token such that the tokens before it begin a signature text and those through it begin none;
+///   at `end` if all tokens begin one and are none.
+/// - `Limit` with `Height` at the first token through which the tokens begin a signature text and none in which no
+///   height is above 400.
 pub fn parse_types(alloc: Global, tokens: &[Token], end: u32) -> Result<RawTypes, ParseStop>
     ensures parsed { SignatureParsed tokens.now end result }
 {

@@ -9,14 +9,14 @@ use um_reader::{Reader, Taken};
 use um_syntax::{Kind, Symbol, Token};
 use um_tree::{RawType, RawTypes};
 
-/// A signature text that has begun: the types before the last `->`, and the one behind it.
+/// A signature text that has begun: the types before the last `->`, and the one after it.
 #[derive(Drop)]
 pub struct SignatureReader {
     earlier: Vec<RawType>,
     last: TypeReader,
 }
 
-// The types, the last one too.
+// The types, with the last one.
 fn with_last(earlier: Vec<RawType>, last: RawType) -> Result<RawTypes, AllocError>
     ensures { IfOk result (λ ts. type_syntaxes ts ≡ map type_syntax earlier.items ++ type_syntax last ∷ []) }
 {
@@ -37,10 +37,14 @@ impl SignatureReader {
     ghost use Rattle.um_types.specs.SignatureView.{signature_state};
 
     // The token that a type has refused.
-    fn take_behind(&mut self, token: &Token) -> Result<Taken, AllocError>
+    fn take_refused(&mut self, token: &Token) -> Result<Taken, AllocError>
         requires earlier { all_height (map type_syntax self.old.earlier.items) ≤ greatest_height }
-        requires last { (t : TypeSyntax) → type_finish (type_state self.old.last) ≡ Some t → whole_height t ≤ greatest_height }
-        ensures { IfOk result (λ t. Gives machine_of_signatures greatest_height (signature_state self.old) (type_ends (map type_syntax self.old.earlier.items) (type_finish (type_state self.old.last)) token.now.kind) t (signature_state self.new)) }
+        requires last { (t : TypeSyntax) → type_finish (type_state self.old.last) ≡ Some t → whole_height t
+            ≤ greatest_height }
+        ensures { IfOk result
+            (λ t. Gives machine_of_signatures greatest_height (signature_state self.old)
+            (type_ends (map type_syntax self.old.earlier.items)
+            (type_finish (type_state self.old.last)) token.now.kind) t (signature_state self.new)) }
     {
         match &token.kind {
             Kind::Sign(Symbol::Arrow) => self.next_type(),
@@ -51,8 +55,12 @@ impl SignatureReader {
     // `->`, which a type has refused.
     fn next_type(&mut self) -> Result<Taken, AllocError>
         requires earlier { all_height (map type_syntax self.old.earlier.items) ≤ greatest_height }
-        requires last { (t : TypeSyntax) → type_finish (type_state self.old.last) ≡ Some t → whole_height t ≤ greatest_height }
-        ensures { IfOk result (λ t. Gives machine_of_signatures greatest_height (signature_state self.old) (type_ends (map type_syntax self.old.earlier.items) (type_finish (type_state self.old.last)) (Kind.Sign Symbol.Arrow)) t (signature_state self.new)) }
+        requires last { (t : TypeSyntax) → type_finish (type_state self.old.last) ≡ Some t → whole_height t
+            ≤ greatest_height }
+        ensures { IfOk result
+            (λ t. Gives machine_of_signatures greatest_height (signature_state self.old)
+            (type_ends (map type_syntax self.old.earlier.items) (type_finish (type_state self.old.last))
+            (Kind.Sign Symbol.Arrow)) t (signature_state self.new)) }
     {
         let last = mem::replace(&mut self.last, TypeReader::new());
         match last.finish() {
@@ -71,7 +79,8 @@ impl Reader for SignatureReader {
     ghost use Rattle.um_tree.specs.RawTree.{TypeSyntax, type_syntaxes};
     ghost use Rattle.um_reader.specs.Takes.{Takes};
     ghost use Rattle.um_types.specs.UnitStops.{greatest_height};
-    ghost use Rattle.um_types.specs.SignatureMachine.{SignatureState, signature_finish, signature_least, machine_of_signatures};
+    ghost use Rattle.um_types.specs.SignatureMachine.{SignatureState, signature_finish, signature_least};
+    ghost use Rattle.um_types.specs.SignatureMachine.{machine_of_signatures};
     ghost use Rattle.um_types.specs.SignatureView.{signature_state};
 
     type Token = Token;
@@ -107,12 +116,14 @@ impl Reader for SignatureReader {
 
     fn take(&mut self, alloc: Global, token: &mut Token) -> Result<Taken, AllocError>
         requires low { signature_least (signature_state self.old) ≤ greatest_height }
-        ensures taken { IfOk result (λ t. Takes machine_of_signatures greatest_height (signature_state self.old) token.old t (signature_state self.new)) }
+        ensures taken { IfOk result
+            (λ t. Takes machine_of_signatures greatest_height (signature_state self.old) token.old t
+            (signature_state self.new)) }
         ensures kept { IfOk result (λ t. t ≡ Taken.Stops → token.new ≡ token.old) }
     {
         match self.last.take(alloc, token)? {
             Taken::Goes => Ok(Taken::Goes),
-            Taken::Stops => self.take_behind(token),
+            Taken::Stops => self.take_refused(token),
             Taken::High => Ok(Taken::High),
         }
     }

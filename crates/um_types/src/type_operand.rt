@@ -1,6 +1,7 @@
-// Type texts with their heights beside them, and what is at hand while one is read.
+// Type texts with their heights beside them, and what stands inside the brackets while one is read.
 ghost use Rattle.std.specs.Prelude.{◌≡◌, ◌≤◌, IfOk, None, Some};
-ghost use Rattle.um_tree.specs.RawTree.{bool_syntax, num_syntax, record_syntax, list_type_syntax, bracket_type_syntax, note_syntax, type_syntax};
+ghost use Rattle.um_tree.specs.RawTree.{bool_syntax, num_syntax, record_syntax, list_type_syntax, bracket_type_syntax};
+ghost use Rattle.um_tree.specs.RawTree.{note_syntax, type_syntax};
 ghost use Rattle.um_tree.specs.Heights.{type_height};
 ghost use Rattle.um_types.specs.UnitStops.{greatest_height};
 
@@ -24,7 +25,7 @@ pub enum Owner {
     Name(u32, Name, RawNotes),
 }
 
-/// What is at hand beside the open brackets: nothing, a type, or what the note belongs to that has begun.
+/// What stands inside the open brackets: nothing, a type, or what the note that has begun belongs to.
 #[derive(Drop)]
 pub enum TypeFocus {
     Empty,
@@ -110,7 +111,7 @@ impl Owner {
     ghost use Rattle.um_types.specs.TypeMachine.{owned};
     ghost use Rattle.um_types.specs.TypeView.{operand_type, view_owner, Opens};
 
-    /// What angle brackets behind a type belong to; where none may stand there, the type again.
+    /// What angle brackets after a type belong to; the type again if none may stand there.
     pub fn of_type(ty: RawType) -> Result<Owner, RawType>
         ensures { Opens (type_syntax ty) result }
     {

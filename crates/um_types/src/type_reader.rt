@@ -5,7 +5,9 @@ ghost use Rattle.um_reader.specs.Takes.{Gives, Takes};
 ghost use Rattle.um_types.specs.UnitStops.{greatest_height};
 ghost use Rattle.um_types.specs.TypeHeights.{note_height};
 ghost use Rattle.um_types.specs.NoteMachine.{NeedNote, note_finish};
-ghost use Rattle.um_types.specs.TypeMachine.{OfNum, NeedType, HaveType, InNote, NoType, type_begin, type_after, close_bracket, open_angle, next_note, note_end, note_ends, own_act, type_finish, type_least, owner_height, machine_of_types};
+ghost use Rattle.um_types.specs.TypeMachine.{OfNum, NeedType, HaveType, InNote, NoType, type_begin, type_after};
+ghost use Rattle.um_types.specs.TypeMachine.{close_bracket, open_angle, next_note, note_end, note_ends, own_act};
+ghost use Rattle.um_types.specs.TypeMachine.{type_finish, type_least, owner_height, machine_of_types};
 ghost use Rattle.um_types.specs.TypeView.{operand_type, view_owner, type_state, IsLow};
 ghost use Rattle.um_types.specs.NoteView.{note_state};
 
@@ -18,7 +20,8 @@ use um_reader::Taken;
 use um_syntax::{Keyword, Kind, Symbol, Token};
 use um_tree::{RawNote, RawType};
 
-/// A type text that has begun: the number of open brackets, what is at hand, and the note that is read, if one has begun.
+/// A type text that has begun: the number of open brackets, what stands inside them, and the note that is read, if one
+/// has begun.
 #[derive(Drop)]
 pub struct TypeReader {
     depth: u32,
@@ -26,7 +29,7 @@ pub struct TypeReader {
     note: NoteReader,
 }
 
-// The type text where all is read, if no bracket is open.
+// The type text of what was read, if no bracket is open.
 fn whole(depth: u32, operand: TypeOperand) -> Option<RawType>
     ensures { option_map type_syntax result ≡ type_finish (HaveType depth (operand_type operand)) }
 {
@@ -53,7 +56,7 @@ impl TypeReader {
         }
     }
 
-    /// A type text begins, whatever was read.
+    /// Another type text begins, whatever was read.
     pub fn restart(&mut self)
         ensures start { type_state self.new ≡ NeedType 0 }
     {
@@ -61,10 +64,11 @@ impl TypeReader {
         self.put(TypeFocus::Empty);
     }
 
-    /// One token more, which stays as it was where it is refused.
+    /// One token more, which stays as it was if it is refused.
     pub fn take(&mut self, alloc: Global, token: &mut Token) -> Result<Taken, AllocError>
         requires low { type_least (type_state self.old) ≤ greatest_height }
-        ensures taken { IfOk result (λ t. Takes machine_of_types greatest_height (type_state self.old) token.old t (type_state self.new)) }
+        ensures taken { IfOk result
+            (λ t. Takes machine_of_types greatest_height (type_state self.old) token.old t (type_state self.new)) }
         ensures kept { IfOk result (λ t. t ≡ Taken.Stops → token.new ≡ token.old) }
     {
         match &self.focus {
@@ -84,7 +88,8 @@ impl TypeReader {
         }
     }
 
-    // Whether this token may follow a type: most types end before it, and nothing has to be moved.
+    // Whether this token may follow a type. Most types end before a token that may not, and nothing has to be moved
+    // then.
     fn may_follow(&self, kind: &Kind) -> bool
         ensures { result ≡ false → (t : TypeSyntax) → type_after self.now.depth t kind.now ≡ NoType }
     {
@@ -96,12 +101,14 @@ impl TypeReader {
         }
     }
 
-    // One token more, which the note has refused, if one has begun. `num` and its note, which most types are, go on where they
-    // stand.
+    // One token more, which the note has refused, if one has begun. `num` and its note, which most types are, go on
+    // in place.
     #[inline(never)]
     fn take_own(&mut self, alloc: Global, token: &mut Token) -> Result<Taken, AllocError>
         requires low { IsLow (type_state self.old) }
-        ensures taken { IfOk result (λ t. Gives machine_of_types greatest_height (type_state self.old) (own_act (type_state self.old) token.old.kind token.old.start) t (type_state self.new)) }
+        ensures taken { IfOk result
+            (λ t. Gives machine_of_types greatest_height (type_state self.old)
+            (own_act (type_state self.old) token.old.kind token.old.start) t (type_state self.new)) }
         ensures kept { IfOk result (λ t. t ≡ Taken.Stops → token.new ≡ token.old) }
     {
         match &token.kind {
@@ -120,11 +127,12 @@ impl TypeReader {
         }
     }
 
-    // An opening angle bracket behind `num`, which holds nothing that has to be let go.
+    // An opening angle bracket after `num`, which holds nothing that has to be let go.
     #[inline(always)]
     fn open_num(&mut self) -> Taken
         requires low { self.old.depth + 1 ≤ greatest_height }
-        ensures { Gives machine_of_types greatest_height (HaveType self.old.depth (num_syntax None)) (open_angle self.old.depth (num_syntax None)) result (type_state self.new) }
+        ensures { Gives machine_of_types greatest_height (HaveType self.old.depth (num_syntax None))
+            (open_angle self.old.depth (num_syntax None)) result (type_state self.new) }
     {
         self.note.restart();
         mem::forget(mem::replace(&mut self.focus, TypeFocus::Note(Owner::Num)));
@@ -136,7 +144,10 @@ impl TypeReader {
     fn end_num(&mut self, alloc: Global) -> Result<Taken, AllocError>
         requires num { self.old.focus ≡ TypeFocus.Note Owner.Num }
         requires low { IsLow (InNote self.old.depth OfNum (note_state self.old.note)) }
-        ensures { IfOk result (λ t. Gives machine_of_types greatest_height (InNote self.old.depth OfNum (note_state self.old.note)) (note_ends self.old.depth OfNum (note_finish (note_state self.old.note)) (Kind.Sign Symbol.Greater)) t (type_state self.new)) }
+        ensures { IfOk result
+            (λ t. Gives machine_of_types greatest_height (InNote self.old.depth OfNum (note_state self.old.note))
+            (note_ends self.old.depth OfNum (note_finish (note_state self.old.note)) (Kind.Sign Symbol.Greater)) t
+            (type_state self.new)) }
     {
         match self.note.take_whole(alloc)? {
             Some(note) => {
@@ -148,21 +159,23 @@ impl TypeReader {
         }
     }
 
-    // One token more, where what is at hand is moved out.
+    // One token more, for which what stands inside the brackets is moved out.
     #[inline(never)]
     fn take_moved(&mut self, alloc: Global, token: &mut Token) -> Result<Taken, AllocError>
         requires low { IsLow (type_state self.old) }
-        ensures taken { IfOk result (λ t. Gives machine_of_types greatest_height (type_state self.old) (own_act (type_state self.old) token.old.kind token.old.start) t (type_state self.new)) }
+        ensures taken { IfOk result
+            (λ t. Gives machine_of_types greatest_height (type_state self.old)
+            (own_act (type_state self.old) token.old.kind token.old.start) t (type_state self.new)) }
         ensures kept { IfOk result (λ t. t ≡ Taken.Stops → token.new ≡ token.old) }
     {
         match mem::replace(&mut self.focus, TypeFocus::Empty) {
             TypeFocus::Empty => Ok(self.take_first(alloc, token)),
             TypeFocus::Full(operand) => self.take_after(alloc, operand, token),
-            TypeFocus::Note(owner) => self.take_behind(alloc, owner, token),
+            TypeFocus::Note(owner) => self.take_refused(alloc, owner, token),
         }
     }
 
-    // What is at hand. Where nothing was, there is nothing to let go.
+    // From now on this stands inside the brackets. If nothing did, there is nothing to let go.
     #[inline(always)]
     fn put(&mut self, focus: TypeFocus)
         ensures focus { self.new.focus ≡ focus }
@@ -185,7 +198,7 @@ impl TypeReader {
         self.put(TypeFocus::Note(owner));
     }
 
-    // A type is at hand.
+    // A type stands inside the brackets.
     fn give(&mut self, operand: TypeOperand) -> Taken
         ensures goes { result ≡ Taken.Goes }
         ensures state { type_state self.new ≡ HaveType self.old.depth (operand_type operand) }
@@ -194,7 +207,7 @@ impl TypeReader {
         Taken::Goes
     }
 
-    // A type stays at hand where the token is refused.
+    // The token is refused, and the type stays inside the brackets.
     fn keep(&mut self, operand: TypeOperand) -> Taken
         ensures stops { result ≡ Taken.Stops }
         ensures state { type_state self.new ≡ HaveType self.old.depth (operand_type operand) }
@@ -207,7 +220,8 @@ impl TypeReader {
     fn take_first(&mut self, alloc: Global, token: &mut Token) -> Taken
         requires wanted { self.old.focus ≡ TypeFocus.Empty }
         requires low { self.old.depth + 1 ≤ greatest_height }
-        ensures taken { Gives machine_of_types greatest_height (NeedType self.old.depth) (type_begin self.old.depth token.old.kind token.old.start) result (type_state self.new) }
+        ensures taken { Gives machine_of_types greatest_height (NeedType self.old.depth)
+            (type_begin self.old.depth token.old.kind token.old.start) result (type_state self.new) }
         ensures kept { result ≡ Taken.Stops → token.new ≡ token.old }
     {
         match &mut token.kind {
@@ -226,7 +240,8 @@ impl TypeReader {
     fn open_bracket(&mut self) -> Taken
         requires wanted { self.old.focus ≡ TypeFocus.Empty }
         requires low { self.old.depth + 1 ≤ greatest_height }
-        ensures { Gives machine_of_types greatest_height (NeedType self.old.depth) (NeedType (suc self.old.depth)) result (type_state self.new) }
+        ensures { Gives machine_of_types greatest_height (NeedType self.old.depth)
+            (NeedType (suc self.old.depth)) result (type_state self.new) }
     {
         let depth = self.depth + 1;
         if depth < GREATEST_HEIGHT {
@@ -237,7 +252,7 @@ impl TypeReader {
         }
     }
 
-    // One token behind a type.
+    // One token after a type.
     fn take_after(
         &mut self,
         alloc: Global,
@@ -245,7 +260,9 @@ impl TypeReader {
         token: &Token,
     ) -> Result<Taken, AllocError>
         requires { type_least (HaveType self.old.depth (operand_type operand)) ≤ greatest_height }
-        ensures { IfOk result (λ t. Gives machine_of_types greatest_height (HaveType self.old.depth (operand_type operand)) (type_after self.old.depth (operand_type operand) token.now.kind) t (type_state self.new)) }
+        ensures { IfOk result
+            (λ t. Gives machine_of_types greatest_height (HaveType self.old.depth (operand_type operand))
+            (type_after self.old.depth (operand_type operand) token.now.kind) t (type_state self.new)) }
     {
         match &token.kind {
             Kind::Word(Keyword::List) => self.list_after(alloc, operand),
@@ -255,10 +272,12 @@ impl TypeReader {
         }
     }
 
-    // `list` behind a type.
+    // `list` after a type.
     fn list_after(&mut self, alloc: Global, operand: TypeOperand) -> Result<Taken, AllocError>
         requires { type_least (HaveType self.old.depth (operand_type operand)) ≤ greatest_height }
-        ensures { IfOk result (λ t. Gives machine_of_types greatest_height (HaveType self.old.depth (operand_type operand)) (HaveType self.old.depth (list_type_syntax (operand_type operand))) t (type_state self.new)) }
+        ensures { IfOk result
+            (λ t. Gives machine_of_types greatest_height (HaveType self.old.depth (operand_type operand))
+            (HaveType self.old.depth (list_type_syntax (operand_type operand))) t (type_state self.new)) }
     {
         if operand.height + self.depth < GREATEST_HEIGHT {
             let list = operand.list(alloc)?;
@@ -269,10 +288,12 @@ impl TypeReader {
         }
     }
 
-    // A closing bracket behind a type.
+    // A closing bracket after a type.
     fn close_bracket(&mut self, alloc: Global, operand: TypeOperand) -> Result<Taken, AllocError>
         requires { type_least (HaveType self.old.depth (operand_type operand)) ≤ greatest_height }
-        ensures { IfOk result (λ t. Gives machine_of_types greatest_height (HaveType self.old.depth (operand_type operand)) (close_bracket self.old.depth (operand_type operand)) t (type_state self.new)) }
+        ensures { IfOk result
+            (λ t. Gives machine_of_types greatest_height (HaveType self.old.depth (operand_type operand))
+            (close_bracket self.old.depth (operand_type operand)) t (type_state self.new)) }
     {
         if self.depth == 0 {
             Ok(self.keep(operand))
@@ -283,10 +304,11 @@ impl TypeReader {
         }
     }
 
-    // An opening angle bracket behind a type.
+    // An opening angle bracket after a type.
     fn open_angle(&mut self, operand: TypeOperand) -> Taken
         requires { type_least (HaveType self.old.depth (operand_type operand)) ≤ greatest_height }
-        ensures { Gives machine_of_types greatest_height (HaveType self.old.depth (operand_type operand)) (open_angle self.old.depth (operand_type operand)) result (type_state self.new) }
+        ensures { Gives machine_of_types greatest_height (HaveType self.old.depth (operand_type operand))
+            (open_angle self.old.depth (operand_type operand)) result (type_state self.new) }
     {
         let TypeOperand { ty, height } = operand;
         match Owner::of_type(ty) {
@@ -299,7 +321,7 @@ impl TypeReader {
     }
 
     // The token that a note has refused.
-    fn take_behind(
+    fn take_refused(
         &mut self,
         alloc: Global,
         owner: Owner,
@@ -309,8 +331,8 @@ impl TypeReader {
         requires low { IsLow (InNote self.old.depth (view_owner owner) (note_state self.old.note)) }
         ensures { IfOk result (λ t. Gives machine_of_types greatest_height
             (InNote self.old.depth (view_owner owner) (note_state self.old.note))
-            (own_act (InNote self.old.depth (view_owner owner) (note_state self.old.note)) token.now.kind token.now.start)
-            t (type_state self.new)) }
+            (own_act (InNote self.old.depth (view_owner owner) (note_state self.old.note)) token.now.kind
+            token.now.start) t (type_state self.new)) }
     {
         match self.note.take_whole(alloc) {
             Ok(Some(note)) => self.end_note(owner, note, token),
@@ -325,11 +347,14 @@ impl TypeReader {
         }
     }
 
-    // The token behind a note.
+    // The token after a note.
     fn end_note(&mut self, owner: Owner, note: RawNote, token: &Token) -> Result<Taken, AllocError>
         requires wanted { self.old.focus ≡ TypeFocus.Empty }
-        requires low { max (self.old.depth + 1) (max (owner_height (view_owner owner)) (note_height (note_syntax note))) ≤ greatest_height }
-        ensures { IfOk result (λ t. Gives machine_of_types greatest_height (NeedType self.old.depth) (note_end self.old.depth (view_owner owner) (note_syntax note) token.now.kind) t (type_state self.new)) }
+        requires low { max (self.old.depth + 1) (max (owner_height (view_owner owner)) (note_height (note_syntax note)))
+            ≤ greatest_height }
+        ensures { IfOk result
+            (λ t. Gives machine_of_types greatest_height (NeedType self.old.depth)
+            (note_end self.old.depth (view_owner owner) (note_syntax note) token.now.kind) t (type_state self.new)) }
     {
         match &token.kind {
             Kind::Sign(Symbol::Greater) => {
@@ -345,11 +370,14 @@ impl TypeReader {
         }
     }
 
-    // A comma behind a note.
+    // A comma after a note.
     fn next_note(&mut self, owner: Owner, note: RawNote) -> Result<Taken, AllocError>
         requires wanted { self.old.focus ≡ TypeFocus.Empty }
-        requires low { max (self.old.depth + 1) (max (owner_height (view_owner owner)) (note_height (note_syntax note))) ≤ greatest_height }
-        ensures { IfOk result (λ t. Gives machine_of_types greatest_height (NeedType self.old.depth) (next_note self.old.depth (view_owner owner) (note_syntax note)) t (type_state self.new)) }
+        requires low { max (self.old.depth + 1) (max (owner_height (view_owner owner)) (note_height (note_syntax note)))
+            ≤ greatest_height }
+        ensures { IfOk result
+            (λ t. Gives machine_of_types greatest_height (NeedType self.old.depth)
+            (next_note self.old.depth (view_owner owner) (note_syntax note)) t (type_state self.new)) }
     {
         match owner {
             Owner::Num => {
@@ -364,7 +392,7 @@ impl TypeReader {
         }
     }
 
-    /// The type text where all is read, if it is one, taken out of the reader.
+    /// The type text of the tokens that were taken, if they are one, out of the reader.
     pub fn take_whole(&mut self) -> Option<RawType>
         ensures found { option_map type_syntax result ≡ type_finish (type_state self.old) }
     {
@@ -375,7 +403,7 @@ impl TypeReader {
         }
     }
 
-    /// The type text where all is read, if it is one.
+    /// The type text of the tokens that were taken, if they are one.
     pub fn finish(self) -> Option<RawType>
         ensures found { option_map type_syntax result ≡ type_finish (type_state self) }
     {

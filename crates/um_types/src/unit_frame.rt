@@ -1,4 +1,4 @@
-// What is open around the next part of a unit text, and what is at hand.
+// What is open around the next part of a unit text, and what stands inside it.
 ghost use Rattle.std.specs.Prelude.{◌≡◌, IfOk};
 ghost use Rattle.um_types.specs.UnitMachine.{plug};
 ghost use Rattle.um_types.specs.UnitLeast.{side};
@@ -25,7 +25,7 @@ pub struct Entry {
     pub least: u32,
 }
 
-/// What is at hand beside the frames: nothing, an atom or a power, or an atom with `^`, or with `^` and `-`.
+/// What stands inside the frames: nothing, an atom or a power, or an atom with `^`, or with `^` and `-`.
 #[derive(Drop)]
 pub enum Focus {
     Empty,
@@ -55,7 +55,7 @@ impl Frame {
         }
     }
 
-    /// What it is with its last part, where no token ends it.
+    /// What it is with its last part, if no token ends it.
     pub fn plug(self, alloc: Global, last: Operand) -> Result<Operand, AllocError>
         ensures { IfOk result (λ p. operand_syntax p ≡ plug (view_frame self) (operand_syntax last)) }
     {

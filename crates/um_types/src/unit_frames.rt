@@ -1,4 +1,4 @@
-// The open frames, each with the least height that it and those around it ask for.
+// The open frames, each with the least height that it and the frames around it ask for.
 ghost use Rattle.std.specs.Prelude.{◌≡◌, ◌<◌, ◌∷◌, [], IfSome, OnOk, length, map, reverse, vec_len};
 ghost use Rattle.um_types.specs.UnitCount.{counted};
 ghost use Rattle.um_types.specs.UnitFrames.{view_frame, entry_least, stack, base, bases, Taken};

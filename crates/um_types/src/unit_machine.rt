@@ -1,7 +1,9 @@
 // Reading a unit text token by token.
-ghost use Rattle.std.specs.Prelude.{◌≡◌, ◌<◌, IfOk, IfSome, IfNone, OnOk, Some, None, option_map, vec_len, pos, neg_ℤ};
+ghost use Rattle.std.specs.Prelude.{◌≡◌, ◌<◌, IfOk, IfSome, IfNone, OnOk, Some, None, option_map, vec_len, pos};
 ghost use Rattle.um_types.specs.UnitTokens.{unit_token, power_of};
-ghost use Rattle.um_types.specs.UnitMachine.{Need, sign_after, Have, Raised, Lowered, reduce, juxtapose, begin, raised, lowered, close_after, opens, after, act, finish, atom_of, power_in, is_atom, is_foreign};
+ghost use Rattle.um_types.specs.UnitMachine.{Need, sign_after, Have, Raised, Lowered, reduce, juxtapose, begin, raised};
+ghost use Rattle.um_types.specs.UnitMachine.{lowered, close_after, opens, after, act, finish, atom_of, power_in};
+ghost use Rattle.um_types.specs.UnitMachine.{is_atom, is_foreign};
 ghost use Rattle.um_types.specs.UnitFrames.{operand_syntax};
 ghost use Rattle.um_types.specs.UnitView.{frames_of, state_of, Simulates, Keeps, Ended, Unbracketed, ends_itself};
 
@@ -43,7 +45,8 @@ fn pop_ended(frames: &mut Frames) -> Option<Frame>
 
 // Ends all frames up to the innermost brackets.
 fn ended(alloc: Global, frames: &mut Frames, operand: Operand) -> Result<Operand, AllocError>
-    ensures { IfOk result (λ t. Have (frames_of frames.new) (operand_syntax t) ≡ reduce (frames_of frames.old) (operand_syntax operand)) }
+    ensures { IfOk result
+        (λ t. Have (frames_of frames.new) (operand_syntax t) ≡ reduce (frames_of frames.old) (operand_syntax operand)) }
 {
     let mut operand = operand;
     while let Some(frame) = pop_ended(frames) {
@@ -65,7 +68,7 @@ fn opens(frames: &Frames) -> bool
     }
 }
 
-// The unit at hand goes into a juxtaposition.
+// The unit that was read goes into a juxtaposition.
 fn juxtapose(alloc: Global, frames: &mut Frames, operand: Operand) -> Result<(), AllocError>
     ensures { OnOk result (frames_of frames.new ≡ juxtapose (frames_of frames.old) (operand_syntax operand)) }
 {
@@ -117,7 +120,9 @@ pub fn written_power(kind: &Kind) -> Option<i32>
 
 // One token where an atom is wanted.
 fn step_empty(alloc: Global, frames: &mut Frames, token: &mut Token) -> Result<Step, AllocError>
-    ensures state { IfOk result (λ s. Simulates (Need (frames_of frames.old)) frames.new s (begin (frames_of frames.old) (unit_token token.old.kind) token.old.start)) }
+    ensures state { IfOk result
+        (λ s. Simulates (Need (frames_of frames.old)) frames.new s
+        (begin (frames_of frames.old) (unit_token token.old.kind) token.old.start)) }
     ensures kept { IfOk result (λ s. Keeps s token.old token.new) }
 {
     if let Some(atom) = atom(alloc, &mut token.kind, token.start) {
@@ -140,14 +145,16 @@ fn step_empty(alloc: Global, frames: &mut Frames, token: &mut Token) -> Result<S
     }
 }
 
-// One token behind `^`.
+// One token after `^`.
 fn step_raised(
     alloc: Global,
     frames: &Frames,
     base: Operand,
     token: &Token,
 ) -> Result<Step, AllocError>
-    ensures { IfOk result (λ s. Simulates (Raised (frames_of frames.now) (operand_syntax base)) frames.now s (raised (frames_of frames.now) (operand_syntax base) (unit_token token.now.kind))) }
+    ensures { IfOk result
+        (λ s. Simulates (Raised (frames_of frames.now) (operand_syntax base)) frames.now s
+        (raised (frames_of frames.now) (operand_syntax base) (unit_token token.now.kind))) }
 {
     if let Some(power) = written_power(&token.kind) {
         return Ok(Step::Goes(Focus::Full(base.power(alloc, power)?)));
@@ -158,14 +165,16 @@ fn step_raised(
     }
 }
 
-// One token behind `^` and `-`.
+// One token after `^` and `-`.
 fn step_lowered(
     alloc: Global,
     frames: &Frames,
     base: Operand,
     token: &Token,
 ) -> Result<Step, AllocError>
-    ensures { IfOk result (λ s. Simulates (Lowered (frames_of frames.now) (operand_syntax base)) frames.now s (lowered (frames_of frames.now) (operand_syntax base) (unit_token token.now.kind))) }
+    ensures { IfOk result
+        (λ s. Simulates (Lowered (frames_of frames.now) (operand_syntax base)) frames.now s
+        (lowered (frames_of frames.now) (operand_syntax base) (unit_token token.now.kind))) }
 {
     match written_power(&token.kind) {
         Some(power) => Ok(Step::Goes(Focus::Full(base.power(alloc, -power)?))),
@@ -184,9 +193,11 @@ fn pop_bracket(frames: &mut Frames) -> Option<u32>
     }
 }
 
-// Brackets close behind the unit at hand, if any are open.
+// Brackets close after the unit that was read, if any are open.
 fn close_after(alloc: Global, frames: &mut Frames, operand: Operand) -> Result<Step, AllocError>
-    ensures { IfOk result (λ s. Simulates (Have (frames_of frames.old) (operand_syntax operand)) frames.new s (close_after (reduce (frames_of frames.old) (operand_syntax operand)))) }
+    ensures { IfOk result
+        (λ s. Simulates (Have (frames_of frames.old) (operand_syntax operand)) frames.new s
+        (close_after (reduce (frames_of frames.old) (operand_syntax operand)))) }
 {
     let inner = ended(alloc, frames, operand)?;
     match pop_bracket(frames) {
@@ -205,14 +216,16 @@ fn is_atom(operand: &Operand) -> bool
     }
 }
 
-// `*` or `/` behind the unit at hand.
+// `*` or `/` after the unit that was read.
 fn after_sign(
     alloc: Global,
     frames: &mut Frames,
     operand: Operand,
     over: bool,
 ) -> Result<Step, AllocError>
-    ensures { IfOk result (λ s. Simulates (Have (frames_of frames.old) (operand_syntax operand)) frames.new s (sign_after over (reduce (frames_of frames.old) (operand_syntax operand)))) }
+    ensures { IfOk result
+        (λ s. Simulates (Have (frames_of frames.old) (operand_syntax operand)) frames.new s
+        (sign_after over (reduce (frames_of frames.old) (operand_syntax operand)))) }
 {
     let left = ended(alloc, frames, operand)?;
     frames.push(if over {
@@ -223,14 +236,16 @@ fn after_sign(
     Ok(Step::Goes(Focus::Empty))
 }
 
-// One token behind an atom or a power.
+// One token after an atom or a power.
 fn step_full(
     alloc: Global,
     frames: &mut Frames,
     operand: Operand,
     token: &mut Token,
 ) -> Result<Step, AllocError>
-    ensures state { IfOk result (λ s. Simulates (Have (frames_of frames.old) (operand_syntax operand)) frames.new s (after (frames_of frames.old) (operand_syntax operand) (unit_token token.old.kind) token.old.start)) }
+    ensures state { IfOk result
+        (λ s. Simulates (Have (frames_of frames.old) (operand_syntax operand)) frames.new s
+        (after (frames_of frames.old) (operand_syntax operand) (unit_token token.old.kind) token.old.start)) }
     ensures kept { IfOk result (λ s. Keeps s token.old token.new) }
 {
     if let Some(atom) = atom(alloc, &mut token.kind, token.start) {
@@ -255,7 +270,7 @@ fn step_full(
     }
 }
 
-/// Whether no unit text has the token.
+/// Whether no unit text contains the token.
 pub fn is_foreign(kind: &Kind) -> bool
     ensures { result ≡ is_foreign (unit_token kind.now) }
 {
@@ -271,14 +286,16 @@ pub fn is_foreign(kind: &Kind) -> bool
     }
 }
 
-/// One token more, which stays as it was where it is refused.
+/// One token more, which stays as it was if it is refused.
 pub fn step(
     alloc: Global,
     frames: &mut Frames,
     focus: Focus,
     token: &mut Token,
 ) -> Result<Step, AllocError>
-    ensures state { IfOk result (λ s. Simulates (state_of frames.old focus) frames.new s (act (state_of frames.old focus) (unit_token token.old.kind) token.old.start)) }
+    ensures state { IfOk result
+        (λ s. Simulates (state_of frames.old focus) frames.new s
+        (act (state_of frames.old focus) (unit_token token.old.kind) token.old.start)) }
     ensures kept { IfOk result (λ s. Keeps s token.old token.new) }
 {
     match focus {
@@ -304,13 +321,14 @@ fn no_whole(open: Option<Frame>, operand: Operand) -> Option<Operand>
     None
 }
 
-// The unit text where all is read behind an atom or a power.
+// The unit text, if all is read after an atom or a power.
 fn finish_full(
     alloc: Global,
     frames: &mut Frames,
     operand: Operand,
 ) -> Result<Option<Operand>, AllocError>
-    ensures { IfOk result (λ o. option_map operand_syntax o ≡ finish (Have (frames_of frames.old) (operand_syntax operand))) }
+    ensures { IfOk result
+        (λ o. option_map operand_syntax o ≡ finish (Have (frames_of frames.old) (operand_syntax operand))) }
 {
     let operand = ended(alloc, frames, operand)?;
     match frames.pop() {
@@ -319,7 +337,7 @@ fn finish_full(
     }
 }
 
-/// The unit text where all is read. Most are one name: no frame is open.
+/// The unit text of the tokens that were taken, if they are one. Most are one name, and no frame is open.
 pub fn finish(
     alloc: Global,
     frames: &mut Frames,

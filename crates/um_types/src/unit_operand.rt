@@ -1,6 +1,8 @@
 // Unit texts with their heights beside them, so that no height is counted again.
-ghost use Rattle.std.specs.Prelude.{◌≡◌, ◌++◌, ◌+◌, ◌∷◌, [], IfOk, map, max};
-ghost use Rattle.um_tree.specs.RawTree.{unit_syntax, units_in_order, one_syntax, measure_syntax, variable_syntax, power_syntax, side_syntax, times_syntax, over_syntax, inverse_syntax, bracket_syntax};
+ghost use Rattle.std.specs.Prelude.{◌≡◌, ◌++◌, ◌+◌, ◌∷◌, [], IfOk, map};
+ghost use Rattle.um_tree.specs.RawTree.{unit_syntax, units_in_order, one_syntax, measure_syntax, variable_syntax};
+ghost use Rattle.um_tree.specs.RawTree.{power_syntax, side_syntax, times_syntax, over_syntax, inverse_syntax};
+ghost use Rattle.um_tree.specs.RawTree.{bracket_syntax};
 ghost use Rattle.um_tree.specs.Heights.{unit_height, tallest_unit};
 ghost use Rattle.um_types.specs.UnitCount.{counted};
 
@@ -83,7 +85,7 @@ impl Operand {
         })
     }
 
-    /// Behind a leading `/`
+    /// After a leading `/`
     pub fn inverse(self, alloc: Global, at: u32) -> Result<Operand, AllocError>
         ensures { IfOk result (λ p. operand_syntax p ≡ inverse_syntax at (operand_syntax self)) }
     {

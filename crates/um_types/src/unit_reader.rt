@@ -14,7 +14,7 @@ use um_reader::{Reader, Taken};
 use um_syntax::Token;
 use um_tree::RawUnit;
 
-/// A unit text that has begun: what is open around the next part, and what is at hand.
+/// A unit text that has begun: what is open around the next part, and what stands inside it.
 #[derive(Drop)]
 pub struct UnitReader {
     frames: Frames,
@@ -40,7 +40,7 @@ impl UnitReader {
     ghost use Rattle.um_types.specs.UnitView.{unit_state};
 
     /// An atom was read.
-    pub fn behind(alloc: Global, atom: Operand) -> UnitReader
+    pub fn after_atom(alloc: Global, atom: Operand) -> UnitReader
         ensures { unit_state result ≡ Have [] (operand_syntax atom) }
     {
         UnitReader {
@@ -49,7 +49,7 @@ impl UnitReader {
         }
     }
 
-    /// The unit text where all is read, if it is one, taken out of the reader.
+    /// The unit text of the tokens that were taken, if they are one, out of the reader.
     pub fn take_whole(&mut self, alloc: Global) -> Result<Option<RawUnit>, AllocError>
         ensures found { IfOk result (λ o. option_map unit_syntax o ≡ finish (unit_state self.old)) }
     {
@@ -57,7 +57,7 @@ impl UnitReader {
         Ok(unit_of(finish(alloc, &mut self.frames, focus)?))
     }
 
-    // What is at hand. Where nothing was, there is nothing to let go.
+    // From now on this stands inside the frames. If nothing did, there is nothing to let go.
     #[inline(always)]
     fn put(&mut self, focus: Focus)
         ensures focus { self.new.focus ≡ focus }
@@ -138,7 +138,8 @@ impl Reader for UnitReader {
     }
 
     fn take(&mut self, alloc: Global, token: &mut Token) -> Result<Taken, AllocError>
-        ensures taken { IfOk result (λ t. Takes machine_of_units greatest_height (unit_state self.old) token.old t (unit_state self.new)) }
+        ensures taken { IfOk result
+            (λ t. Takes machine_of_units greatest_height (unit_state self.old) token.old t (unit_state self.new)) }
         ensures kept { IfOk result (λ t. t ≡ Taken.Stops → token.new ≡ token.old) }
     {
         if is_foreign(&token.kind) {

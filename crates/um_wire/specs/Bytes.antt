@@ -1,6 +1,6 @@
--- What reads and writes do to the bytes that a source has left and a sink took, in the manner of
--- std's `Io.KnownBytes`: these are known, `Some` of the bytes, where the source or the sink tells
--- them, and else they are `None`, of which nothing is claimed. This project's own.
+-- What reads and writes do to the bytes that a source has left and a sink took, in the manner of std's `Io.KnownBytes`:
+-- these are known, `Some` of the bytes, if the source or the sink tells them; otherwise they are `None`, of which
+-- nothing is claimed. This project's own.
 use Rattle.std.specs.Prelude.{◌≡◌, ℕ, ◌<◌, ◌≤◌, List, ◌++◌, length, ⊤, None, Some, Result, IfOk, ◌↔◌}
 use Rattle.std.specs.declared.option.Option.{Option}
 use Rattle.std.specs.Io.KnownBytes.{Appends, Consumes}
@@ -21,7 +21,7 @@ pub record TellsMoreThan (limit : ℕ) (known : Option (List ℕ)) : Type 0 wher
   pub told : Tells known bytes
   pub more : limit < length bytes
 
--- the bytes that a call read number more than `limit` exactly where `IsPast` holds
+-- the bytes that a call read number more than `limit` exactly if `IsPast` holds
 pub record ReadsPast (limit : ℕ) (IsPast : Type 0) (old new : Option (List ℕ)) : Type 0 where
   pub bytes : List ℕ
   pub read : Consumes old new bytes

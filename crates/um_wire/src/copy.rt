@@ -1,8 +1,7 @@
 // What the sources in memory share.
 ghost use Rattle.std.specs.Prelude.{◌≡◌, ◌+◌, ◌-◌, ◌≤◌, ◌++◌, length, take, drop, min};
 
-/// Copies the bytes from `at` on, at most `most` of them, into the front of `into`, and answers how
-/// many.
+/// Copies the bytes from `at` on, at most `most` of them, into the front of `into`, and answers how many.
 pub(crate) fn copy_next(bytes: &[u8], at: usize, most: usize, into: &mut [u8]) -> usize
     requires { at ≤ length bytes.now }
     ensures count { result ≡ min most (min (length into.old) (length bytes.now - at)) }

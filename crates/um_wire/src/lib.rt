@@ -1,17 +1,15 @@
-//! Bytes in and out: where a text is read from, where an answer is written to, and an exact count
-//! of what went wrong.
+//! Bytes in and out: where a text is read from, where an answer is written to, and an exact count of what went wrong.
 //!
-//! A [`Source`] gives bytes and a [`Sink`] takes them, a piece at a time. Each counts its faults,
-//! and a call of either fails only where that count rose. [`read_text`] reads a whole text,
-//! [`read_into`] hands it on piece by piece to a [`Taker`], and [`write_all`] writes a text.
+//! A [`Source`] gives bytes and a [`Sink`] takes them, a piece at a time. Each counts its faults, and a call of either
+//! fails only if that count rose. [`read_text`] reads a whole text, [`read_into`] hands it on piece by piece to a
+//! [`Taker`], and [`write_all`] writes a text.
 //!
-//! [`StdSource`] and [`StdSink`] stand over std's readers and writers, [`QuietSource`] and
-//! [`QuietSink`] never fail, and [`MemSource`] and [`MemSink`] move a few bytes at a time and fail
-//! at the calls that a test names.
+//! [`StdSource`] and [`StdSink`] stand over std's readers and writers, [`QuietSource`] and [`QuietSink`] never fail,
+//! and [`MemSource`] and [`MemSink`] move a few bytes at a time and fail at the calls that a test names.
 //!
 //! ```
 //! let mut source = StdSource::new(rt.stdin());
-//! let text = read_text(alloc, &mut source, 1_048_576)?; // TooLong where one byte more can be read
+//! let text = read_text(alloc, &mut source, 1_048_576)?; // TooLong if one byte more can be read
 //! let mut sink = StdSink::new(rt.stdout());
 //! write_all(&mut sink, &text)?;
 //! ```

@@ -1,6 +1,6 @@
-// A sink in memory, for tests: it takes a few bytes at a time, and fails at the calls that it is
-// told.
-ghost use Rattle.std.specs.Prelude.{◌≡◌, ◌≤◌, ◌↔◌, ◌⊎◌, [], Some, IsErr, IfOk, OnOk, OnErr, Contains, length, vec_len, vec_capacity};
+// A sink in memory, for tests: it takes a few bytes at a time, and fails at the calls that a test names.
+ghost use Rattle.std.specs.Prelude.{◌≡◌, ◌≤◌, ◌↔◌, ◌⊎◌, [], Some, IsErr, IfOk, OnOk, OnErr, Contains, length, vec_len};
+ghost use Rattle.std.specs.Prelude.{vec_capacity};
 ghost use Rattle.std.specs.Io.KnownBytes.{WriteAppends};
 ghost use Rattle.um_wire.specs.Faults.{Rose, next_count, fault_count};
 ghost use Rattle.um_wire.specs.Bytes.{TakesSome};
@@ -10,8 +10,8 @@ use crate::{Failed, NoMemory, Sink};
 use std::alloc::Global;
 use std::marker::Model;
 
-/// Takes bytes into a room of a fixed size, at most `piece` at a time. The calls that `fails` names
-/// fail, and so does each write into a full room.
+/// Takes bytes into a room of a fixed size, at most `piece` at a time. The calls that `fails` names fail, and so does
+/// each write into a full room.
 #[derive(Debug, Drop)]
 pub struct MemSink {
     bytes: Vec<u8>,
@@ -39,8 +39,8 @@ impl Model for MemSink {
 }
 
 impl MemSink {
-    /// A sink with room for `room` bytes, all of whose memory is taken here. A write takes at most
-    /// `piece` bytes, and the calls numbered in `fails`, from 0, fail.
+    /// A sink with room for `room` bytes, all of whose memory is taken here. A write takes at most `piece` bytes, and
+    /// the calls numbered in `fails`, from 0, fail.
     pub fn new(
         alloc: Global,
         room: usize,
@@ -80,8 +80,8 @@ impl Sink for MemSink {
 
     ghost faults = { λ s. s.faults };
 
-    /// Fails where the call's number is named or the room is full, and else takes as much as the
-    /// piece, `from` and the room allow.
+    /// Fails if the call's number is named or the room is full; otherwise takes as much as the piece, `from` and the
+    /// room allow.
     #[tactic(auto, unfolding(crate::specs::Faults::Rose))]
     fn write(&mut self, from: &[u8]) -> Result<usize, Failed>
         ensures bound { TakesSome result from.now }

@@ -1,5 +1,4 @@
-// A source in memory, for tests: it gives a few bytes at a time, and fails at the calls that it is
-// told.
+// A source in memory, for tests: it gives a few bytes at a time, and fails at the calls that a test names.
 ghost use Rattle.std.specs.Prelude.{◌≡◌, ◌≤◌, ◌↔◌, Some, IsErr, IfOk, OnOk, OnErr, Contains, length, drop, vec_len};
 ghost use Rattle.std.specs.Io.{ReadsAtMost};
 ghost use Rattle.std.specs.Io.KnownBytes.{ReadConsumes};
@@ -36,8 +35,7 @@ impl Model for MemSource {
 }
 
 impl MemSource {
-    /// All of `bytes` is left. A read gives at most `piece` bytes, and the calls numbered in
-    /// `fails`, from 0, fail.
+    /// All of `bytes` is left. A read gives at most `piece` bytes, and the calls numbered in `fails`, from 0, fail.
     pub fn new(bytes: Vec<u8>, piece: usize, fails: Vec<u64>) -> MemSource
         requires { 1 ≤ piece }
         ensures { result ≡ record {
@@ -64,8 +62,7 @@ impl Source for MemSource {
 
     ghost faults = { λ s. s.faults };
 
-    /// Fails where the call's number is named, and else gives as much as the piece, `into` and the
-    /// bytes left allow.
+    /// Fails if the call's number is named; otherwise gives as much as the piece, `into` and the bytes left allow.
     #[tactic(auto, unfolding(crate::specs::Faults::Rose))]
     fn read(&mut self, into: &mut [u8]) -> Result<usize, Failed>
         ensures bound { ReadsAtMost result into.new }

@@ -42,10 +42,12 @@ impl From<AllocError> for ReadStop {
 // How many bytes a read asks for.
 const PIECE: usize = 4096;
 
-/// Reads all bytes that are left in `source`, where they number at most `limit`.
+/// Reads all bytes that are left in `source`, if they number at most `limit`.
 ///
-/// It answers `TooLong` exactly where byte `limit + 1` was read, and `Failed` only where the source
-/// counted a fault. After any other answer the source counted none.
+/// # Errors
+///
+/// `TooLong` exactly if byte `limit + 1` was read, `Failed` only if the source counted a fault, and `NoMemory`. After
+/// any other answer than `Failed` the source counted no fault.
 pub fn read_text<S: Source>(
     alloc: Global,
     source: &mut S,
@@ -67,12 +69,14 @@ pub fn read_text<S: Source>(
     Ok(text)
 }
 
-/// Hands all bytes that are left in `source` on to `taker`, piece by piece, where they number at
-/// most `limit`.
+/// Hands all bytes that are left in `source` on to `taker`, piece by piece, if they number at most `limit`. The taker
+/// is given at most `limit` bytes.
 ///
-/// It answers `TooLong` exactly where byte `limit + 1` was read, and `Failed` only where the source
-/// counted a fault; after any other answer it counted none. After either, the taker has taken a prefix
-/// of the bytes that were left. It is given at most `limit` bytes. Each turn takes a byte or is the last, so the call returns.
+/// # Errors
+///
+/// `TooLong` exactly if byte `limit + 1` was read, `Failed` only if the source counted a fault, and `NoMemory`. After
+/// any other answer than `Failed` the source counted no fault. After `TooLong` and `Failed` the taker has taken a
+/// prefix of the bytes that were left.
 pub fn read_into<S: Source, T: Taker>(
     source: &mut S,
     limit: usize,

@@ -7,18 +7,17 @@ ghost use Rattle.um_wire.specs.Bytes.{TakesSome};
 
 use crate::Failed;
 
-/// Takes bytes, a piece at a time. Contracts see two things of it: the bytes that it took, where it
-/// tells them, and its count of faults.
+/// Takes bytes, a piece at a time. Contracts see two things of it: the bytes that it took, if it tells them, and its
+/// count of faults.
 pub trait Sink {
-    /// The bytes that the sink took, in order, where it tells them.
+    /// The bytes that the sink took, in order, if it tells them.
     ghost taken: { Self → Option (List ℕ) };
 
     /// How many faults the sink has met.
     ghost faults: { Self → ℕ };
 
-    /// Takes the first bytes of `from`, and answers how many: at least one of a piece that isn't
-    /// empty. After `Failed` the bytes taken are those of before, where the sink tells them. A write
-    /// that takes bytes met no fault on the way.
+    /// Takes the first bytes of `from`, and answers how many: at least one of a piece that isn't empty. After `Failed`
+    /// the bytes taken are those of before, if the sink tells them. A write that succeeds met no fault.
     fn write(&mut self, from: &[u8]) -> Result<usize, Failed>
         ensures bound { TakesSome result from.now }
         ensures bytes { WriteAppends (taken self.old) (taken self.new) result from.now }

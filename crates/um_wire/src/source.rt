@@ -9,18 +9,17 @@ ghost use Rattle.um_wire.specs.Faults.{Rose};
 #[derive(Clone, Copy, Debug, PartialEq, Eq)]
 pub struct Failed;
 
-/// Gives bytes, a piece at a time. Contracts see two things of it: the bytes left, where it tells
-/// them, and its count of faults.
+/// Gives bytes, a piece at a time. Contracts see two things of it: the bytes left, if it tells them, and its count of
+/// faults.
 pub trait Source {
-    /// The bytes that are left to read, where the source tells them.
+    /// The bytes that are left to read, if the source tells them.
     ghost left: { Self → Option (List ℕ) };
 
     /// How many faults the source has met.
     ghost faults: { Self → ℕ };
 
-    /// Reads the next bytes left into the front of `into`, and answers how many. It answers 0 only
-    /// where no byte is left or `into` is empty. After `Failed` the same bytes are left. A read that
-    /// gives bytes met no fault on the way.
+    /// Reads the next bytes left into the front of `into`, and answers how many. It answers 0 only if no byte is left
+    /// or `into` is empty. After `Failed` the same bytes are left. A read that succeeds met no fault.
     fn read(&mut self, into: &mut [u8]) -> Result<usize, Failed>
         ensures bound { ReadsAtMost result into.new }
         ensures bytes { ReadConsumes (left self.old) (left self.new) result into.new }

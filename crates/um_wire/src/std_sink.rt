@@ -9,9 +9,8 @@ use crate::{Failed, Sink};
 use std::io::Write;
 use std::marker::Model;
 
-/// A writer of std, flushed after each write. It counts a write or a flush that fails, and a write
-/// that takes no byte of a piece that isn't empty. It doesn't tell what was taken, since a failed
-/// flush may follow a write that was.
+/// A writer of std, flushed after each write. It counts a write or a flush that fails, and a write that takes no byte
+/// of a piece that isn't empty. It doesn't tell what was taken, since a failed flush may follow a write that was.
 #[derive(Debug, Drop)]
 pub struct StdSink<W: Write> {
     writer: W,
@@ -38,8 +37,8 @@ impl<W: Write> Sink for StdSink<W> {
 
     ghost faults = { λ s. s.faults };
 
-    /// Writes to the writer once, and flushes it. After `Failed` the writer has got a prefix of
-    /// `from`, where it tells what it got: all that it took before a flush that failed, or nothing.
+    /// Writes to the writer once, and flushes it. After `Failed` the writer has got a prefix of `from`, if it tells
+    /// what it got: all that it took before a flush that failed, or nothing.
     #[tactic(auto, unfolding(crate::specs::Faults::Rose))]
     fn write(&mut self, from: &[u8]) -> Result<usize, Failed>
         ensures bound { TakesSome result from.now }

@@ -9,7 +9,7 @@ use crate::{Failed, Source};
 use std::io::Read;
 use std::marker::Model;
 
-/// A reader of std. It tells the bytes left where the reader does, and counts each read that fails.
+/// A reader of std. It tells the bytes left if the reader does, and counts each read that fails.
 #[derive(Debug, Drop)]
 pub struct StdSource<R: Read> {
     reader: R,

@@ -4,8 +4,8 @@ ghost use Rattle.std.specs.Prelude.{◌≡◌, ◌+◌, ◌-◌, ◌^◌, ◌≤
 use crate::NoMemory;
 use std::alloc::Allocator;
 
-/// Takes the pieces of a text, one after another. Contracts see two things of it: the bytes that it
-/// took, and the greatest number of bytes that it may be given, which never changes.
+/// Takes the pieces of a text, one after another. Contracts see two things of it: the bytes that it took, and the
+/// greatest number of bytes that it may be given, which never changes.
 pub trait Taker {
     /// The bytes that were taken, in order.
     ghost taken: { Self → List ℕ };
@@ -13,7 +13,7 @@ pub trait Taker {
     /// At most how many bytes it may be given in all.
     ghost most: { Self → ℕ };
 
-    /// Takes all of `piece`. After `NoMemory` nothing is said of the bytes taken.
+    /// Takes all of `piece`. After `NoMemory` nothing is known of the bytes taken.
     fn take(&mut self, piece: &[u8]) -> Result<(), NoMemory>
         requires { length (taken self.old) + length piece.now ≤ most self.old }
         ensures added { OnOk result (taken self.new ≡ taken self.old ++ piece.now) }

@@ -6,8 +6,8 @@ ghost use Rattle.um_wire.specs.Bytes.{AppendsPrefix};
 
 use crate::{Failed, Sink};
 
-/// Writes all of `bytes`, in order. Where a write fails, it stops there, and the sink has taken a
-/// prefix of `bytes`. No bytes make no write. It takes no memory.
+/// Writes all of `bytes`, in order. If a write fails, it stops there, and the sink has taken a prefix of `bytes`. It
+/// makes no write if there are no bytes. It takes no memory.
 pub fn write_all<K: Sink>(sink: &mut K, bytes: &[u8]) -> Result<(), Failed>
     ensures all { OnOk result (Appends (K.taken sink.old) (K.taken sink.new) bytes.now) }
     ensures prefix { OnErr result (AppendsPrefix (K.taken sink.old) (K.taken sink.new) bytes.now) }

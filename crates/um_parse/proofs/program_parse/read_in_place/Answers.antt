@@ -5,7 +5,7 @@ use Rattle.um_reader.specs.declared.taken.Taken.TheVariants as taken
 use Rattle.um_reader.proofs.Loop.{goes}
 use Rattle.um_types.specs.UnitStops.{greatest_height}
 use Rattle.um_parse.specs.ProgramLeast.{program_least, machine_of_programs}
-use Rattle.um_parse.specs.DeclTakes.{program_state}
+use Rattle.um_parse.specs.ReaderStates.{program_state}
 use Rattle.um_parse.proofs.ProgramParsed.{refused_at, high_at, all_read, none_read}
 use Rattle.um_parse.proofs.Front.{same_at, same_behind}
 use Rattle.um_parse.proofs.program_parse.read_in_place.Goals as goal

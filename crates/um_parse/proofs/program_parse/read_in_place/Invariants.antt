@@ -1,5 +1,5 @@
 use Rattle.std.proofs.Common.{◌≡◌, length, drop}
-use Rattle.um_parse.specs.DeclTakes.{program_state}
+use Rattle.um_parse.specs.ReaderStates.{program_state}
 use Rattle.um_parse.proofs.ProgramParsed.{StandsAt}
 use Rattle.um_parse.proofs.program_parse.read_in_place.Given as goal
 

@@ -1,8 +1,8 @@
 use Rattle.std.proofs.Common.{sym, ap}
-use Rattle.um_parse.specs.DeclMachine.{NoDecl, Expects}
-use Rattle.um_parse.specs.DeclViews.{view_expected}
-use Rattle.um_parse.specs.DeclTakes.{place_state}
-use Rattle.um_parse.proofs.DeclTaken.{expected_low, goes_on}
+use Rattle.um_decls.specs.DeclMachine.{NoDecl, Expects}
+use Rattle.um_parse.specs.ReaderStates.{view_expected, place_state}
+use Rattle.um_decls.proofs.DeclTaken.{goes_on}
+use Rattle.um_parse.proofs.DeclExpected.{expected_low}
 use Rattle.um_parse.proofs.decl_reader.DeclReader.take_fixed.Goals as goal
 
 pub returns-in-Some : goal.returns-in-Some

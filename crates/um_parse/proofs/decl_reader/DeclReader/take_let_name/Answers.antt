@@ -1,10 +1,10 @@
 use Rattle.std.proofs.Common.{◌≡◌, false, sym, ap, ◌∙◌, arith, rules}
 use Rattle.um_syntax.specs.declared.token.Kind.TheVariants as kind
 use Rattle.um_syntax.specs.declared.vocabulary.Keyword.TheVariants as keyword
-use Rattle.um_expr.specs.ExprTokens.{expr_token}
-use Rattle.um_parse.specs.DeclMachine.{DeclBegin, LetName, RecName, FunctionVars, NoDecl, Expects, take_expected}
-use Rattle.um_parse.specs.DeclTakes.{place_state}
-use Rattle.um_parse.proofs.DeclTaken.{goes_on}
+use Rattle.um_forms.specs.ExprTokens.{expr_token}
+use Rattle.um_decls.specs.DeclMachine.{DeclBegin, LetName, RecName, FunctionVars, NoDecl, Expects, take_expected}
+use Rattle.um_parse.specs.ReaderStates.{place_state}
+use Rattle.um_decls.proofs.DeclTaken.{goes_on}
 use Rattle.um_parse.proofs.decl_reader.DeclReader.take_let_name.Goals as goal
 
 pub returns-in-Name : goal.returns-in-Name

@@ -1,7 +1,7 @@
 use Rattle.std.proofs.Common.{true, sym, ap, ◌∙◌, arith}
-use Rattle.um_expr.specs.ExprTokens.{expr_token}
-use Rattle.um_parse.specs.DeclMachine.{DeclBegin, RecName, FunctionVars, NoDecl, Expects, take_expected}
-use Rattle.um_parse.proofs.DeclTaken.{goes_on}
+use Rattle.um_forms.specs.ExprTokens.{expr_token}
+use Rattle.um_decls.specs.DeclMachine.{DeclBegin, RecName, FunctionVars, NoDecl, Expects, take_expected}
+use Rattle.um_decls.proofs.DeclTaken.{goes_on}
 use Rattle.um_parse.proofs.decl_reader.DeclReader.take_rec_name.Goals as goal
 
 pub returns-in-Name : goal.returns-in-Name

@@ -1,8 +1,8 @@
 use Rattle.std.proofs.Common.{sym, ap, ◌∙◌, arith}
-use Rattle.um_expr.specs.ExprTokens.{expr_token}
-use Rattle.um_parse.specs.DeclMachine.{DeclBegin, RecordName, RecordVars, NoDecl, Expects, take_expected}
-use Rattle.um_parse.specs.DeclTakes.{place_state}
-use Rattle.um_parse.proofs.DeclTaken.{goes_on}
+use Rattle.um_forms.specs.ExprTokens.{expr_token}
+use Rattle.um_decls.specs.DeclMachine.{DeclBegin, RecordName, RecordVars, NoDecl, Expects, take_expected}
+use Rattle.um_parse.specs.ReaderStates.{place_state}
+use Rattle.um_decls.proofs.DeclTaken.{goes_on}
 use Rattle.um_parse.proofs.decl_reader.DeclReader.take_record_name.Goals as goal
 
 pub returns-in_ok-record-in-Name : goal.returns-in_ok-record-in-Name

@@ -1,0 +1,4 @@
+pub mod DeclLists
+pub mod DeclTaken
+pub mod DeclTokens
+pub mod DeclEnds

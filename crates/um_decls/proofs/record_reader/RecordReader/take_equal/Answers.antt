@@ -1,0 +1,16 @@
+use Rattle.std.proofs.Common.{◌≡◌, ap, arith, rules}
+use Rattle.um_syntax.specs.declared.token.Kind.TheVariants as kind
+use Rattle.um_syntax.specs.declared.vocabulary.Symbol.TheVariants as symbol
+use Rattle.um_forms.specs.ExprTokens.{expr_token}
+use Rattle.um_decls.specs.DeclMachine.{NoDecl, Expects, RecordEqual, RecordBrace, take_expected}
+use Rattle.um_decls.specs.DeclViews.{head_vars}
+use Rattle.um_decls.proofs.DeclTaken.{goes_on}
+use Rattle.um_decls.proofs.record_reader.RecordReader.take_equal.Goals as goal
+
+pub returns-in-Sign-Equal : goal.returns-in-Sign-Equal
+returns-in-Sign-Equal c =
+    let h = c.args.self.now.head in
+    let token = c.args.token.now in
+    let equal : token.kind ≡ kind.Sign symbol.Equal = search rules in
+    goes_on NoDecl _ (Expects (RecordBrace h.at h.name (head_vars h))) _ c.put.ensures
+    (ap (λ k. take_expected (RecordEqual h.at h.name (head_vars h)) (expr_token k) token.start) equal) (λ e. cc) (omega arith)
