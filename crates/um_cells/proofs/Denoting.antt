@@ -5,7 +5,7 @@ use Rattle.um_tree.specs.ValueTree.{ValueTree, ValueTrees, truth_value, number_v
 use Rattle.um_cells.specs.declared.word.Word.{Word}
 use Rattle.um_cells.specs.declared.cell.Cell.{Cell}
 use Rattle.um_cells.specs.declared.cell.Cell.TheVariants.{Item, Record, Part}
-use Rattle.um_cells.specs.Denotes.{Denotes, ListFrom, PartsFrom, DenoteEach, Retains, list_from, number_of}
+use Rattle.um_cells.specs.Denotes.{Denotes, ListFrom, PartsFrom, DenoteEach, Retains, list_from, value_count}
 
 list_from-injective : (a b : Option ℕ) → list_from a ≡ list_from b → a ≡ b
 list_from-injective None None h = refl
@@ -40,8 +40,8 @@ mutual
   one_value s w (record_value q vs) (record_value r us) (n, e, c, p) (m, f, d, o) =
       let same_record : q ≡ r = cc in
       let same_cell : n ≡ m = cc in
-      let same_count : number_of vs ≡ number_of us =
-      let k : slice_get s n ≡ Some (Record (number_of us)) = ap (slice_get s) same_cell ∙ d in cc in
+      let same_count : value_count vs ≡ value_count us =
+      let k : slice_get s n ≡ Some (Record (value_count us)) = ap (slice_get s) same_cell ∙ d in cc in
       let same : vs ≡ us = one_row s (n + 1) (m + 1) vs us (ap (λ i. i + 1) same_cell) same_count p o in
       cc
 
@@ -58,7 +58,7 @@ mutual
       let items : vs ≡ us = one_list s next after vs us same_next l o in
       cc
 
-  one_row : (s : List Cell) (n m : ℕ) (vs us : ValueTrees) → n ≡ m → number_of vs ≡ number_of us → PartsFrom s n vs → PartsFrom s m us → vs ≡ us
+  one_row : (s : List Cell) (n m : ℕ) (vs us : ValueTrees) → n ≡ m → value_count vs ≡ value_count us → PartsFrom s n vs → PartsFrom s m us → vs ≡ us
   one_row s n m no_values no_values e many h k = refl
   one_row s n m no_values (more_values u us) e many h k = absurd (omega arith)
   one_row s n m (more_values v vs) no_values e many h k = absurd (omega arith)
@@ -66,7 +66,7 @@ mutual
       let cell : Some (Part w) ≡ Some (Part y) = sym c ∙ ap (slice_get s) e ∙ d in
       let same_word : w ≡ y = cc in
       let item : v ≡ u = one_value s w v u x (subst (λ i. Denotes s i u) (sym same_word) z) in
-      let fewer : number_of vs ≡ number_of us = omega arith in
+      let fewer : value_count vs ≡ value_count us = omega arith in
       let items : vs ≡ us = one_row s (n + 1) (m + 1) vs us (ap (λ i. i + 1) e) fewer p o in
       cc
 

@@ -9,7 +9,7 @@ use Rattle.um_cells.specs.declared.word.Word.TheVariants.{Bool as Truth, Num as 
 use Rattle.um_cells.specs.declared.word.ListCase.{ListCase}
 use Rattle.um_cells.specs.declared.cell.Cell.{Cell}
 use Rattle.um_cells.specs.declared.cell.Cell.TheVariants.{Record, Part}
-use Rattle.um_cells.specs.Denotes.{Denotes, ListFrom, PartsFrom, list_from, number_of}
+use Rattle.um_cells.specs.Denotes.{Denotes, ListFrom, PartsFrom, list_from, value_count}
 use Rattle.um_cells.specs.Formed.{holds}
 use Rattle.um_cells.specs.Operations.{Gives, TakenApart}
 use Rattle.um_cells.specs.Laws.{TakesArm}
@@ -42,31 +42,31 @@ longer_some s t w first n v (number_value c) e g h = absurd (let k : None ≡ So
 longer_some s t w first n v (record_value r vs) e g (m, is, c, p) = absurd (let k : None ≡ Some first = sym (ap first_cell is) ∙ e in cc)
 longer_some s t w first n v (list_value vs) e g h = (Some n, refl, g vs (list_items s w first vs e h))
 
-part_at_place : (s : List Cell) (n k : ℕ) (vs : ValueTrees) → k < number_of vs → PartsFrom s n vs → (w : Word) × (v : ValueTree) × (slice_get s (n + k) ≡ Some (Part w)) × (value_at vs k ≡ Ok v) × Denotes s w v
+part_at_place : (s : List Cell) (n k : ℕ) (vs : ValueTrees) → k < value_count vs → PartsFrom s n vs → (w : Word) × (v : ValueTree) × (slice_get s (n + k) ≡ Some (Part w)) × (value_at vs k ≡ Ok v) × Denotes s w v
 part_at_place s n k no_values h p = absurd (omega arith)
 part_at_place s n zero (more_values v vs) h (w, c, x, p) = (w, v, ap (slice_get s) (omega arith) ∙ c, refl, x)
 part_at_place s n (suc k) (more_values v vs) h (w, c, x, p) =
-    let less : k < number_of vs = omega arith in
+    let less : k < value_count vs = omega arith in
     let (y, u, d, e, z) = part_at_place s (n + 1) k vs less p in
     (y, u, ap (slice_get s) (omega arith) ∙ d, e, z)
 
-no_value_at : (k : ℕ) (vs : ValueTrees) → number_of vs ≤ k → value_at vs k ≡ Err wrong
+no_value_at : (k : ℕ) (vs : ValueTrees) → value_count vs ≤ k → value_at vs k ≡ Err wrong
 no_value_at k no_values h = refl
 no_value_at zero (more_values v vs) h = absurd (omega arith)
 no_value_at (suc k) (more_values v vs) h = no_value_at k vs (omega arith)
 
-count_is : (s : List Cell) (n count : ℕ) (vs : ValueTrees) → Some count ≡ part_count (slice_get s n) → slice_get s n ≡ Some (Record (number_of vs)) → count ≡ number_of vs
-count_is s n count vs h c = let k : Some count ≡ Some (number_of vs) = h ∙ ap part_count c in cc
+count_is : (s : List Cell) (n count : ℕ) (vs : ValueTrees) → Some count ≡ part_count (slice_get s n) → slice_get s n ≡ Some (Record (value_count vs)) → count ≡ value_count vs
+count_is s n count vs h c = let k : Some count ≡ Some (value_count vs) = h ∙ ap part_count c in cc
 
-pub no_part : (s : Store) (n count k : ℕ) (vs : ValueTrees) → Some count ≡ part_count (slice_get s.cells.items n) → count ≤ k → slice_get s.cells.items n ≡ Some (Record (number_of vs)) → Gives s (value_at vs k) None
+pub no_part : (s : Store) (n count k : ℕ) (vs : ValueTrees) → Some count ≡ part_count (slice_get s.cells.items n) → count ≤ k → slice_get s.cells.items n ≡ Some (Record (value_count vs)) → Gives s (value_at vs k) None
 no_part s n count k vs h l c =
     let many = count_is s.cells.items n count vs h c in
     subst (λ o. Gives s o None) (sym (no_value_at k vs (omega arith))) refl
 
-pub some_part : (s : Store) (n count k : ℕ) (vs : ValueTrees) (o : Option Word) → Some count ≡ part_count (slice_get s.cells.items n) → k < count → o ≡ part_word (slice_get s.cells.items (n + 1 + k)) → slice_get s.cells.items n ≡ Some (Record (number_of vs)) → PartsFrom s.cells.items (n + 1) vs → Gives s (value_at vs k) o
+pub some_part : (s : Store) (n count k : ℕ) (vs : ValueTrees) (o : Option Word) → Some count ≡ part_count (slice_get s.cells.items n) → k < count → o ≡ part_word (slice_get s.cells.items (n + 1 + k)) → slice_get s.cells.items n ≡ Some (Record (value_count vs)) → PartsFrom s.cells.items (n + 1) vs → Gives s (value_at vs k) o
 some_part s n count k vs o h l is c p =
     let many = count_is s.cells.items n count vs h c in
-    let less : k < number_of vs = omega arith in
+    let less : k < value_count vs = omega arith in
     let (w, u, here, found, denotes) = part_at_place s.cells.items (n + 1) k vs less p in
     subst (λ i. Gives s i o) (sym found) (subst (λ i. Gives s (Ok u) i) (sym (is ∙ ap part_word here)) denotes)
 

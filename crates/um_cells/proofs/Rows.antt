@@ -6,7 +6,7 @@ use Rattle.um_cells.specs.declared.word.Word.{Word}
 use Rattle.um_cells.specs.declared.word.Word.TheVariants.{Rec as RecordAt}
 use Rattle.um_cells.specs.declared.cell.Cell.{Cell}
 use Rattle.um_cells.specs.declared.cell.Cell.TheVariants.{Record, Part}
-use Rattle.um_cells.specs.Denotes.{Denotes, ListFrom, PartsFrom, DenoteEach, Retains, number_of}
+use Rattle.um_cells.specs.Denotes.{Denotes, ListFrom, PartsFrom, DenoteEach, Retains, value_count}
 use Rattle.um_cells.proofs.Denoting.{retained_each, length-DenoteEach, DenoteEach-append}
 use Rattle.um_cells.proofs.Growing.{retains_grown, next_cell}
 use Rattle.um_cells.proofs.Adding.{shifted_parts, shifted_number}
@@ -33,9 +33,9 @@ longer_row s t u ws vs i w d first n k h p q e l g =
     subst (λ j. ListFrom t first (values_in_order (drop j vs))) (sym next) l in
     subst (λ us. ListFrom u (Some n) us) (sym is) (g v (values_in_order (drop (suc (i - 1)) vs)) (k w v x) others)
 
-pub number_of-values_in_order : (vs : List ValueTree) → number_of (values_in_order vs) ≡ length vs
-number_of-values_in_order [] = refl
-number_of-values_in_order (v ∷ vs) = ap suc (number_of-values_in_order vs)
+pub value_count-values_in_order : (vs : List ValueTree) → value_count (values_in_order vs) ≡ length vs
+value_count-values_in_order [] = refl
+value_count-values_in_order (v ∷ vs) = ap suc (value_count-values_in_order vs)
 
 parts_added : (t before : List Cell) (ws : List Word) (vs : List ValueTree) (n : ℕ) → t ≡ before ++ map Part ws → n ≡ length before → DenoteEach t ws vs → PartsFrom t n (values_in_order vs)
 parts_added t before [] [] n e m h = tt
@@ -48,7 +48,7 @@ pub record_added : (s t : List Cell) (ws : List Word) (vs : List ValueTree) (r n
 record_added s t ws vs r n e m h =
     let kept = retained_each s t (retains_grown s t _ e) ws vs h in
     let first = next_cell s t (map Part ws) (Record (length ws)) n e m in
-    let many : length ws ≡ number_of (values_in_order vs) = sym (length-DenoteEach s ws vs h) ∙ sym (number_of-values_in_order vs) in
+    let many : length ws ≡ value_count (values_in_order vs) = sym (length-DenoteEach s ws vs h) ∙ sym (value_count-values_in_order vs) in
     (n, refl, first ∙ ap (λ i. Some (Record i)) many, parts_added t (s ++ Record (length ws) ∷ []) ws vs (n + 1) (shifted_parts s t (Record (length ws)) (map Part ws) e) (shifted_number s (Record (length ws)) n m) kept)
 
 pub cells_of_record : (s t : List Cell) (ws : List Word) → t ≡ s ++ Record (length ws) ∷ map Part ws → length t ≡ length s + length ws + 1

@@ -12,7 +12,7 @@ use Rattle.um_cells.specs.Denotes.{Denotes, ListFrom, PartsFrom, list_from}
 use Rattle.um_cells.specs.Formed.{Formed, is_item, is_record, is_part, names_among, parts_formed, holds}
 use Rattle.um_cells.proofs.Tests.{both_true, less_from_test, part_there}
 use Rattle.um_cells.proofs.WellFormed.{value_of_word, holds_from_value, names_among-all}
-use Rattle.um_cells.proofs.Rows.{number_of-values_in_order}
+use Rattle.um_cells.proofs.Rows.{value_count-values_in_order}
 
 -- among how many first cells a word's lies
 abbrev pub reach : Word → ℕ
@@ -120,7 +120,7 @@ parts_end f s at k xs g = subst (λ us. PartsFrom s at us) (followed-none (map f
 
 pub record_read : {X : Type 0} (f : X → ValueTree) (s : List Cell) (w : Word) (r n : ℕ) (xs : List X) (v : ValueTree) → w ≡ RecordAt r n → v ≡ record_value r (values_in_order (map f xs)) → slice_get s n ≡ Some (Record (length xs)) → PartsFrom s (n + 1) (values_in_order (map f xs)) → Denotes s w v
 record_read f s w r n xs v e is c p =
-    let many = sym (number_of-values_in_order (map f xs) ∙ length-map xs f) in
+    let many = sym (value_count-values_in_order (map f xs) ∙ length-map xs f) in
     subst (λ v. Denotes s w v) (sym is) (n, e, c ∙ ap (λ i. Some (Record i)) many, p)
 
 pub nil_read : {X : Type 0} (f : X → ValueTree) (s : List Cell) (w : Word) (xs : List X) (v : ValueTree) → w ≡ Nil → v ≡ list_value (values_in_order (map f xs)) → xs ≡ [] → Denotes s w v

@@ -8,7 +8,7 @@ use Rattle.um_cells.specs.declared.word.Word.{Word}
 use Rattle.um_cells.specs.declared.word.Word.TheVariants.{Bool as Truth, Num as Number, Nil, List as ListAt, Rec as RecordAt}
 use Rattle.um_cells.specs.declared.cell.Cell.{Cell}
 use Rattle.um_cells.specs.declared.cell.Cell.TheVariants.{Item, Record, Part}
-use Rattle.um_cells.specs.Denotes.{Denotes, ListFrom, PartsFrom, DenoteEach, Retains, list_from, number_of}
+use Rattle.um_cells.specs.Denotes.{Denotes, ListFrom, PartsFrom, DenoteEach, Retains, list_from, value_count}
 use Rattle.um_cells.specs.Formed.{is_item, is_record, names_among, part_formed, parts_formed, cell_formed, Formed, holds}
 use Rattle.um_cells.proofs.Denoting.{Extends}
 use Rattle.um_cells.proofs.Tests.{both_true, and_true, less_from_test, test_from_less, item_there, record_there, part_there}
@@ -63,7 +63,7 @@ list_of_word s (Some n) (list_value vs) (Some m, e, l) =
     let same : m ≡ n = cc in
     (vs, refl, subst (λ i. ListFrom s (Some i) vs) same l)
 
-values_of_parts : (s : List Cell) (n : ℕ) → ((w : Word) → IsTrue (names_among s n w) → (v : ValueTree) × Denotes s w v) → (at k : ℕ) → IsTrue (parts_formed s n at k) → (vs : ValueTrees) × (number_of vs ≡ k) × PartsFrom s at vs
+values_of_parts : (s : List Cell) (n : ℕ) → ((w : Word) → IsTrue (names_among s n w) → (v : ValueTree) × Denotes s w v) → (at k : ℕ) → IsTrue (parts_formed s n at k) → (vs : ValueTrees) × (value_count vs ≡ k) × PartsFrom s at vs
 values_of_parts s n all at zero h = (no_values, refl, tt)
 values_of_parts s n all at (suc k) h =
     let (p, q) = both_true _ _ h in

@@ -1,4 +1,4 @@
--- Which value a word denotes, where some cells are there.
+-- Which value a word denotes, given some cells.
 -- Source: D. Knuth, Fundamental Algorithms, 2.2.3 (linked lists) and 2.3.5 (lists that share their tails).
 -- A value is finite, and the definition is a recursion on it: so what a word names can't go round in a circle.
 use Rattle.std.specs.Prelude.{◌≡◌, ℕ, suc, ◌+◌, List, [], ◌∷◌, Option, Some, None, slice_get}
@@ -15,9 +15,9 @@ abbrev pub list_from : Option ℕ → Word
 list_from None = Nil
 list_from (Some n) = ListAt n
 
-abbrev pub number_of : ValueTrees → ℕ
-number_of no_values = 0
-number_of (more_values v vs) = suc (number_of vs)
+abbrev pub value_count : ValueTrees → ℕ
+value_count no_values = 0
+value_count (more_values v vs) = suc (value_count vs)
 
 abbrev mutual
   pub Denotes : List Cell → Word → ValueTree → Type 0
@@ -25,7 +25,7 @@ abbrev mutual
   Denotes s w (number_value c) = w ≡ Number c
   Denotes s w (list_value vs) = (first : Option ℕ) × (w ≡ list_from first) × ListFrom s first vs
   Denotes s w (record_value r vs) =
-      (n : ℕ) × (w ≡ RecordAt r n) × (slice_get s n ≡ Some (Record (number_of vs))) × PartsFrom s (n + 1) vs
+      (n : ℕ) × (w ≡ RecordAt r n) × (slice_get s n ≡ Some (Record (value_count vs))) × PartsFrom s (n + 1) vs
 
   -- these are the items of the list whose first item stands in this cell; without a cell there are none
   pub ListFrom : List Cell → Option ℕ → ValueTrees → Type 0

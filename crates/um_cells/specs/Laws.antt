@@ -20,11 +20,11 @@ abbrev pub ListsHaveOneValue : Type 0
 ListsHaveOneValue =
     (s : Store) (ws : List Word) (vs us : List ValueTree) → AllDenote s ws vs → AllDenote s ws us → vs ≡ us
 
--- a word passes the test exactly where it denotes a value
+-- a word passes the test exactly if it denotes a value
 abbrev pub HoldingWordsDenote : Type 0
 HoldingWordsDenote = (s : Store) (w : Word) → HoldsIn s w ↔ HasValue s w
 
--- and some words pass it exactly where each denotes one
+-- and some words pass it exactly if each denotes one
 abbrev pub HoldingListsDenote : Type 0
 HoldingListsDenote = (s : Store) (ws : List Word) → AllHold s ws ↔ HaveValues s ws
 
@@ -33,7 +33,7 @@ abbrev pub ListsAreKept : Type 0
 ListsAreKept =
     (s t : Store) → Keeps s t → (ws : List Word) (vs : List ValueTree) → AllDenote s ws vs → AllDenote t ws vs
 
--- words that pass the test do so where they are kept
+-- words that pass the test still pass it if what words denote is kept
 abbrev pub HoldingIsKept : Type 0
 HoldingIsKept = (s t : Store) → Keeps s t → (ws : List Word) → AllHold s ws → AllHold t ws
 
@@ -41,7 +41,7 @@ HoldingIsKept = (s t : Store) → Keeps s t → (ws : List Word) → AllHold s w
 abbrev pub KeepingIsTransitive : Type 0
 KeepingIsTransitive = (s t u : Store) → Keeps s t → Keeps t u → Keeps s u
 
--- the arm of a match by how its list is taken apart: `x` where it is empty, `y` where it has items
+-- the arm of a match by how its list is taken apart: `x` if it is empty, `y` if it has items
 abbrev pub TakesArm :
     Store → Option ListCase →
     (ℕ → Out ValueTree) → (ValueTree → ValueTree → ℕ → Out ValueTree) → ℕ → Out ValueTree → Type 0

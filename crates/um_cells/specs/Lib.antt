@@ -1,4 +1,6 @@
--- What is trusted: which value a word denotes, and what the operations on words give.
+-- What is trusted: on which values a function may be called, which value a word denotes, and what the operations on
+-- words give.
+pub mod Arguments
 pub mod Denotes
 pub mod Stores
 pub mod Operations

@@ -13,14 +13,14 @@ use Rattle.um_cells.specs.declared.operations.WordOutcome.{WordOutcome}
 use Rattle.um_cells.specs.declared.operations.WordOutcome.TheVariants as outcome
 use Rattle.um_cells.specs.Stores.{DenotesIn}
 
--- the truth value that a value is, where it is one
+-- the truth value that a value is, if it is one
 abbrev pub truth_in : ValueTree → Option Bool
 truth_in (truth_value b) = Some b
 truth_in (number_value c) = None
 truth_in (list_value vs) = None
 truth_in (record_value r vs) = None
 
--- the number that a value is, where it is one
+-- the number that a value is, if it is one
 abbrev pub number_in : ValueTree → Option Frac
 number_in (truth_value b) = None
 number_in (number_value c) = Some c
@@ -36,7 +36,7 @@ IsOutcome store (Err stop) (outcome.Value w) = ⊥
 IsOutcome store (Err stop) (outcome.Trap t) = stop ≡ trap t
 IsOutcome store (Err stop) outcome.Wrong = stop ≡ wrong
 
--- a word is given exactly where the values give a value, and denotes it; none is given where their shapes are wrong
+-- a word is given exactly if the values give a value, and denotes it; none is given if their shapes are wrong
 abbrev pub Gives : Store → Result ValueTree Stop → Option Word → Type 0
 Gives store (Ok v) (Some w) = DenotesIn store w v
 Gives store (Ok v) None = ⊥

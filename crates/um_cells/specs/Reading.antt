@@ -7,7 +7,7 @@ use Rattle.um_cells.specs.declared.word.Word.TheVariants.{List as ListAt, Rec as
 use Rattle.um_cells.specs.declared.cell.Cell.{Cell}
 use Rattle.um_cells.specs.declared.cell.Cell.TheVariants.{Item, Record, Part}
 
--- where the word is a list: the cell of its first item, if it has one
+-- if the word is a list: the cell of its first item, if it has one
 abbrev pub first_cell : Word → Option (Option ℕ)
 first_cell (Truth b) = None
 first_cell (Number c) = None

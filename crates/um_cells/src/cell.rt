@@ -11,7 +11,7 @@ use um_units::NoMemory;
 pub(crate) enum Cell {
     /// An item of a list, and the number of the next item's cell
     Item(Word, Option<usize>),
-    /// The first cell of a record: how many parts stand in the cells behind it
+    /// The first cell of a record: how many parts stand in the cells after it
     Record(usize),
     /// A part of a record
     Part(Word),
@@ -61,7 +61,7 @@ pub(crate) fn part_word(cell: Option<Cell>) -> Option<Word>
     }
 }
 
-// The cells of a record behind the others. On want of memory the cells are as they were.
+// The cells of a record after the others. If memory runs out, the cells are as they were.
 pub(crate) fn push_record(cells: &mut Vec<Cell>, parts: &[Word]) -> Result<(), NoMemory>
     ensures ok { OnOk result (cells.new.items ≡ cells.old.items ++ Cell.Record (length parts.now)
         ∷ map Cell.Part parts.now) }

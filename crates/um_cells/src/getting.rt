@@ -44,7 +44,8 @@ impl Store {
     #[cycle(get)]
     fn items_from(&self, alloc: Global, n: usize) -> Result<Vec<Value>, NoMemory>
         requires { IsTrue (is_item (slice_get self.now.cells.items n)) }
-        ensures { IfOk result (λ vs. ListFrom self.now.cells.items (Some n) (values_in_order (map value_tree vs.items))) }
+        ensures { IfOk result (λ vs. ListFrom self.now.cells.items (Some n)
+            (values_in_order (map value_tree vs.items))) }
     {
         let mut items = Vec::new(alloc);
         let mut next = Some(n);

@@ -8,14 +8,14 @@ pub fn one_value()
     ensures words { ListsHaveOneValue }
 {}
 
-/// Words pass the test of `Store::holds` exactly where they denote values.
+/// Words pass the test of `Store::holds` exactly if they denote values.
 pub fn holding_words()
     ensures word { HoldingWordsDenote }
     ensures words { HoldingListsDenote }
 {}
 
-/// Where what single words denote is kept, so is what lists of them denote, and each word that passes the test passes
-/// it still. Two steps that each keep it keep it together.
+/// If what single words denote is kept, so is what lists of them denote, and each word that passes the test still
+/// passes it. Two steps that each keep it keep it together.
 pub fn kept_words()
     ensures words { ListsAreKept }
     ensures holding { HoldingIsKept }

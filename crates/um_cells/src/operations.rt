@@ -1,7 +1,8 @@
 //! The operations on words that need no cells.
 ghost use Rattle.std.specs.Prelude.{◌≡◌};
 ghost use Rattle.um_tree.specs.ValueTree.{ValueTree};
-ghost use Rattle.um_tree.specs.Meaning.{arithmetic, comparison, calculated, compared, negated, not_of, raised, number_result};
+ghost use Rattle.um_tree.specs.Meaning.{arithmetic, comparison, calculated, compared, negated, not_of, raised};
+ghost use Rattle.um_tree.specs.Meaning.{number_result};
 ghost use Rattle.um_cells.specs.declared.store.Store.{Store};
 ghost use Rattle.um_cells.specs.Stores.{DenotesIn};
 ghost use Rattle.um_cells.specs.Operations.{truth_in, number_in, IsOutcome};
@@ -16,11 +17,11 @@ pub enum WordOutcome {
     Value(Word),
     /// The numbers have no result
     Trap(Trap),
-    /// A word is no value of the kind that the operation takes
+    /// A word isn't a value of the kind that the operation takes
     Wrong,
 }
 
-/// The truth value that the word is, where it is one.
+/// The truth value that the word is, if it is one.
 pub fn truth(word: Word) -> Option<bool>
     ensures { (s : Store) (v : ValueTree) → DenotesIn s word v → truth_in v ≡ result }
 {
@@ -33,7 +34,7 @@ pub fn truth(word: Word) -> Option<bool>
     }
 }
 
-// The number that the word is, where it is one.
+// The number that the word is, if it is one.
 fn number(word: Word) -> Option<Frac>
     ensures { (s : Store) (v : ValueTree) → DenotesIn s word v → number_in v ≡ result }
 {
@@ -46,7 +47,7 @@ fn number(word: Word) -> Option<Frac>
     }
 }
 
-/// The number with the other sign. It doesn't trap, and is wrong exactly where the word is no number.
+/// The number with the other sign. It doesn't trap, and is wrong exactly if the word isn't a number.
 pub fn negate(word: Word) -> WordOutcome
     ensures { (s : Store) (v : ValueTree) → DenotesIn s word v → IsOutcome s (negated v) result }
 {
@@ -56,7 +57,7 @@ pub fn negate(word: Word) -> WordOutcome
     }
 }
 
-/// The other truth value. It doesn't trap, and is wrong exactly where the word is no truth value.
+/// The other truth value. It doesn't trap, and is wrong exactly if the word isn't a truth value.
 pub fn not(word: Word) -> WordOutcome
     ensures { (s : Store) (v : ValueTree) → DenotesIn s word v → IsOutcome s (not_of v) result }
 {
@@ -66,7 +67,7 @@ pub fn not(word: Word) -> WordOutcome
     }
 }
 
-/// The number to the power `k`. It traps as `Frac::pow` does, and is wrong exactly where the word is no number.
+/// The number to the power `k`. It traps as `Frac::pow` does, and is wrong exactly if the word isn't a number.
 pub fn raise(word: Word, k: i32) -> WordOutcome
     ensures { (s : Store) (v : ValueTree) → DenotesIn s word v → IsOutcome s (raised k v) result }
 {
@@ -76,8 +77,8 @@ pub fn raise(word: Word, k: i32) -> WordOutcome
     }
 }
 
-/// What the operation gives on two numbers. It traps as that of `Frac` does, and is wrong exactly where one of the
-/// words is no number.
+/// What the operation gives on two numbers. It traps as that of `Frac` does, and is wrong exactly if one of the
+/// words isn't a number.
 pub fn calculate(op: Arith, x: Word, y: Word) -> WordOutcome
     ensures { (s : Store) (v u : ValueTree) → DenotesIn s x v → DenotesIn s y u
         → IsOutcome s (calculated op v u) result }
@@ -91,8 +92,8 @@ pub fn calculate(op: Arith, x: Word, y: Word) -> WordOutcome
     of_number(arithmetic(op, a, b))
 }
 
-/// The truth value of the comparison of two numbers. It doesn't trap, and is wrong exactly where one of the words is no
-/// number.
+/// The truth value of the comparison of two numbers. It doesn't trap, and is wrong exactly if one of the words isn't
+/// a number.
 pub fn compare(sign: Sign, x: Word, y: Word) -> WordOutcome
     ensures { (s : Store) (v u : ValueTree) → DenotesIn s x v → DenotesIn s y u
         → IsOutcome s (compared sign v u) result }

@@ -32,7 +32,7 @@ impl Store {
         }
     }
 
-    /// Words that denote the values, in order. `NoMemory` is the one error, and all else is as of `put`.
+    /// Words that denote the values, in order. `NoMemory` is the one error, and everything else is as with `put`.
     #[cycle(put)]
     pub fn put_each(&mut self, alloc: Global, values: &[Value]) -> Result<Vec<Word>, NoMemory>
         ensures keeps { Keeps self.old self.new }

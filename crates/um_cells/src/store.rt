@@ -17,10 +17,12 @@ pub struct Store {
 }
 
 impl Store {
-    ghost use Rattle.std.specs.Prelude.{◌≡◌, ◌↔◌, ◌+◌, ◌<◌, ℕ, List, length, OnOk, OnErr, OnSome, IfOk, IfSome, IsTrue, Some, None, slice_get};
-    ghost use Rattle.um_tree.specs.ValueTree.{ValueTree, ValueTrees, list_value, record_value, more_values, values_in_order};
+    ghost use Rattle.std.specs.Prelude.{◌≡◌, ◌↔◌, ◌+◌, ◌<◌, List, length, OnOk, OnErr, OnSome, IfOk, IfSome, IsTrue};
+    ghost use Rattle.std.specs.Prelude.{Some, None, slice_get};
+    ghost use Rattle.um_tree.specs.ValueTree.{ValueTree, ValueTrees, list_value, record_value, more_values};
+    ghost use Rattle.um_tree.specs.ValueTree.{values_in_order};
     ghost use Rattle.um_tree.specs.Meaning.{longer, field_of, value_at};
-    ghost use Rattle.um_cells.specs.Denotes.{ListFrom, PartsFrom, list_from, number_of};
+    ghost use Rattle.um_cells.specs.Denotes.{ListFrom, PartsFrom, list_from, value_count};
     ghost use Rattle.um_cells.specs.declared.cell.Cell.TheVariants.{Record};
     ghost use Rattle.um_cells.specs.Stores.{DenotesIn, AllDenote, HasValue, HaveValues, Keeps, cell_count};
     ghost use Rattle.um_cells.specs.Operations.{Gives, GivesIfOk, TakenApart, part_of};
@@ -49,9 +51,9 @@ impl Store {
         }
     }
 
-    /// The list with one more item in front, or `None` exactly where the second word's value is no list.
+    /// The list with one more item in front, or `None` exactly if the second word's value isn't a list.
     ///
-    /// Both words must denote values in this store. The list takes one cell and shares the others; where it isn't made,
+    /// Both words must denote values in this store. The list takes one cell and shares the others; if it isn't made,
     /// for want of a list or of memory, no cell is added. `NoMemory` is the one error.
     pub fn cons(&mut self, item: Word, list: Word) -> Result<Option<Word>, NoMemory>
         requires item { HasValue self.old item }
@@ -104,8 +106,8 @@ impl Store {
         Ok(Word::Rec(record_number, n))
     }
 
-    /// The list taken apart: it is empty, or it has a first item and the list of the others. `None` exactly where the
-    /// word's value is no list. It adds no cell.
+    /// The list taken apart: it is empty, or it has a first item and the list of the others. `None` exactly if the
+    /// word's value isn't a list. It adds no cell.
     pub fn split(&self, list: Word) -> Option<ListCase>
         ensures { (v : ValueTree) → DenotesIn self.now list v → TakenApart self.now v result }
     {
@@ -119,8 +121,8 @@ impl Store {
         }
     }
 
-    /// The part of this place, counted from 0, of a value of the record of this number. `None` exactly where the
-    /// word's value is none of this record or has no such part. It adds no cell.
+    /// The part of this place, counted from 0, of a value of the record of this number. `None` exactly if the
+    /// word's value isn't of this record or has no such part. It adds no cell.
     pub fn field(&self, record_number: u32, place: usize, word: Word) -> Option<Word>
         ensures { (v : ValueTree) → DenotesIn self.now word v → Gives self.now (field_of record_number place v) result }
     {
@@ -133,7 +135,7 @@ impl Store {
         self.part(n, place)
     }
 
-    /// The part of this place, counted from 0, of a value of any record. `None` exactly where the word's value is no
+    /// The part of this place, counted from 0, of a value of any record. `None` exactly if the word's value isn't a
     /// record or has no such part. It adds no cell.
     pub fn part_of(&self, place: usize, word: Word) -> Option<Word>
         ensures { (v : ValueTree) → DenotesIn self.now word v → Gives self.now (part_of place v) result }
@@ -144,7 +146,7 @@ impl Store {
 
     // The part of this place of the record whose first cell this is.
     fn part(&self, n: usize, place: usize) -> Option<Word>
-        ensures { (vs : ValueTrees) → slice_get self.now.cells.items n ≡ Some (Record (number_of vs))
+        ensures { (vs : ValueTrees) → slice_get self.now.cells.items n ≡ Some (Record (value_count vs))
             → PartsFrom self.now.cells.items (n + 1) vs → Gives self.now (value_at vs place) result }
     {
         let count = self.parts_at(n)?;
@@ -172,7 +174,7 @@ impl Store {
         }
     }
 
-    // The cell that is `k` further than the one behind this.
+    // The cell that is `k` further than the one after this.
     fn cell_behind(&self, n: usize, k: usize) -> Option<Cell>
         requires { n < length self.now.cells.items }
         ensures { result ≡ slice_get self.now.cells.items (n + 1 + k) }

@@ -27,7 +27,7 @@ pub enum ListCase {
     Items(Word, Word),
 }
 
-// Where the word is a list: the cell of its first item, if it has one.
+// If the word is a list: the cell of its first item, if it has one.
 pub(crate) fn first_cell(word: Word) -> Option<Option<usize>>
     ensures { result ≡ first_cell word }
 {

@@ -36,7 +36,7 @@ operand_text p (operand.Record r) = record_name p r
 operand_text p (operand.Function f) = function_name p f
 operand_text p (operand.Power k) = signed_decimal k
 
--- the instruction's word, and its operands behind spaces
+-- the instruction's word, and its operands after spaces
 abbrev pub op_text : ProgramTree → Op → List ℕ
 op_text p i = op_word i ++ flat_map (λ o. codes " " ++ operand_text p o) (op_operands i)
 

@@ -10,12 +10,12 @@ use um_machine::{Code, Entry, Op};
 use um_tree::{Function, Program};
 use um_units::NoMemory;
 
-/// The listing of the code: for each function a line with its name and its number of parameters, and then a line for each
-/// of its instructions, with its address, its word and its operands.
+/// The listing of the code: for each function a line with its name and its number of parameters, and then a line for
+/// each of its instructions, with its address, its word and its operands.
 ///
 /// The code has one entry for each function of the program, and the entries lie within the instructions. A record or a
-/// function that an instruction names but the program hasn't has the empty name. `NoMemory` is the one error. The form is
-/// this project's own.
+/// function that an instruction names but the program doesn't have has the empty name. `NoMemory` is the one error. The
+/// form is this project's own.
 pub fn listing(alloc: Global, code: &Code, program: &Program) -> Result<Vec<u8>, NoMemory>
     requires count { length code.now.entries ≡ length (program_tree program.now).functions }
     requires within { All (λ e. (e.start ≤ e.end) × (e.end ≤ length code.now.ops)) code.now.entries }
@@ -41,7 +41,8 @@ fn push_function(
     entry: Entry,
 ) -> Result<(), AllocError>
     requires within { (entry.start ≤ entry.end) × (entry.end ≤ length ops.now) }
-    ensures { OnOk result (text.new.items ≡ text.old.items ++ function_lines (program_tree program.now) ops.now (function_tree function.now) entry) }
+    ensures { OnOk result (text.new.items ≡ text.old.items
+        ++ function_lines (program_tree program.now) ops.now (function_tree function.now) entry) }
 {
     text.extend_from_slice(function.name.as_slice())?;
     text.push(b' ')?;
@@ -76,7 +77,8 @@ fn push_line(
     address: u32,
     op: Op,
 ) -> Result<(), AllocError>
-    ensures { OnOk result (text.new.items ≡ text.old.items ++ (decimal address ++ codes " " ++ op_text (program_tree program.now) op ++ codes "\n")) }
+    ensures { OnOk result (text.new.items ≡ text.old.items
+        ++ (decimal address ++ codes " " ++ op_text (program_tree program.now) op ++ codes "\n")) }
 {
     push_count(text, address)?;
     text.push(b' ')?;

@@ -12,7 +12,7 @@ use um_machine::{Op, Operand};
 use um_show::number_text;
 use um_tree::{Function, Program, Record};
 
-/// Adds the text of an instruction: its word, and its operands behind spaces.
+/// Adds the text of an instruction: its word, and its operands after spaces.
 pub(crate) fn push_op(
     alloc: Global,
     text: &mut Vec<u8>,
@@ -27,14 +27,15 @@ pub(crate) fn push_op(
     push_operand(alloc, text, program, second)
 }
 
-/// Adds an operand behind a space, where there is one.
+/// Adds an operand after a space, if there is one.
 fn push_operand(
     alloc: Global,
     text: &mut Vec<u8>,
     program: &Program,
     operand: Option<Operand>,
 ) -> Result<(), AllocError>
-    ensures { OnOk result (text.new.items ≡ text.old.items ++ flat_map (λ o. codes " " ++ operand_text (program_tree program.now) o) (option_to_list operand)) }
+    ensures { OnOk result (text.new.items ≡ text.old.items
+        ++ flat_map (λ o. codes " " ++ operand_text (program_tree program.now) o) (option_to_list operand)) }
 {
     match operand {
         None => Ok(()),

@@ -11,7 +11,7 @@ use Rattle.um_cells.specs.declared.store.Store.{Store}
 use Rattle.um_cells.specs.declared.word.Word.{Word}
 use Rattle.um_cells.specs.Stores.{DenotesIn, AllDenote, HasValue}
 use Rattle.um_cells.proofs.Denoting.{one_value, one_value_each}
-use Rattle.um_runner.specs.Arguments.{AreArgumentsOf}
+use Rattle.um_cells.specs.Arguments.{AreArgumentsOf}
 use Rattle.um_eval.specs.declared.next.End.TheVariants as end
 use Rattle.um_eval.specs.Progress.{EndsWith, end_of_call}
 

@@ -36,7 +36,7 @@ collected fs (collection.Call j) vs b = Outcome fs j vs b
 
 -- The frames, the innermost first, make the second outcome of the first, which is that of the expression inside them.
 -- There the variables have these values, the first words are the callers' variables, and the second the values of items
--- that wait for those behind them.
+-- that wait for those after them.
 abbrev pub Completes :
     List FunctionTree → Store → List Word → List Word → List Frame → List ValueTree → Out ValueTree → Out ValueTree →
     Type 0

@@ -4,7 +4,8 @@ use Rattle.std.specs.Prelude.{◌≡◌, ◌<◌, ◌≤◌, ◌+◌, ℕ, List,
 use Rattle.um_tree.specs.ValueTree.{ValueTree, OutcomeTree}
 use Rattle.um_tree.specs.ExprTree.{ExprTrees, expr_tree}
 use Rattle.um_tree.specs.ProgramTree.{FunctionTree}
-use Rattle.um_tree.specs.Meaning.{trap, budget_end, wrong, Out, gives, stops, then, found, Means, AllMean, Outcome, end_of}
+use Rattle.um_tree.specs.Meaning.{trap, budget_end, wrong, Out, gives, stops, then, found, Means, AllMean, Outcome}
+use Rattle.um_tree.specs.Meaning.{end_of}
 use Rattle.um_cells.specs.declared.store.Store.{Store}
 use Rattle.um_cells.specs.declared.word.Word.{Word}
 use Rattle.um_cells.specs.Stores.{DenotesIn, AllDenote}
@@ -57,7 +58,8 @@ Goes fs m next out n = IfSome (task_of m next) (λ task. LeadsTo fs m task out n
 abbrev pub IsVariable : List FunctionTree → Evaluator → ℕ → Out ValueTree → ℕ → Type 0
 IsVariable fs m k out n =
     (vars : List ValueTree) × AllDenote m.store (own_of m.scope) vars
-    × Completes fs m.store (callers_of m.scope) m.values.items (frames_of m) vars (found (slice_get vars k) m.budget) out
+    × Completes fs m.store (callers_of m.scope) m.values.items (frames_of m) vars
+    (found (slice_get vars k) m.budget) out
     × (steps_left fs m.budget (frames_of m) 0 < n)
 
 -- What is collected comes to it, where the rest is still to be evaluated, and the values before it wait from this place
@@ -97,6 +99,6 @@ EndsWith s (end.Trap t) out = stops (trap t) ≡ out
 EndsWith s end.BudgetEnd out = stops budget_end ≡ out
 EndsWith s end.Wrong out = stops wrong ≡ out
 
--- how a call ends; nothing where a shape is wrong
+-- how a call ends; nothing if a shape is wrong
 abbrev pub end_of_call : List FunctionTree → ℕ → List ValueTree → ℕ → Option OutcomeTree
 end_of_call fs j vs b = end_of (Outcome fs j vs b)

@@ -38,8 +38,11 @@ pub(crate) fn run_call(
     budget: u64,
 ) -> Result<Outcome, NoMemory>
     requires words { HaveValues store words.items }
-    requires right { (vs : List ValueTree) → AllDenote store words.items vs → IsSome (end_of_call (map function_tree functions.now) f vs budget) }
-    ensures { (vs : List ValueTree) → AllDenote store words.items vs → IfOk result (λ outcome. end_of_call (map function_tree functions.now) f vs budget ≡ Some (outcome_tree outcome)) }
+    requires right { (vs : List ValueTree) → AllDenote store words.items vs
+        → IsSome (end_of_call (map function_tree functions.now) f vs budget) }
+    ensures { (vs : List ValueTree) → AllDenote store words.items vs
+        → IfOk result (λ outcome. end_of_call (map function_tree functions.now) f vs budget
+        ≡ Some (outcome_tree outcome)) }
 {
     let mut evaluator = Evaluator {
         store,
@@ -58,7 +61,8 @@ pub(crate) fn run_call(
 // The outcome of a run that ended.
 fn outcome(alloc: Global, store: &Store, end: End) -> Result<Outcome, NoMemory>
     requires { (out : Out ValueTree) × EndsWith store.now end out × IsSome (end_of out) }
-    ensures { (out : Out ValueTree) → EndsWith store.now end out → IfOk result (λ outcome. end_of out ≡ Some (outcome_tree outcome)) }
+    ensures { (out : Out ValueTree) → EndsWith store.now end out
+        → IfOk result (λ outcome. end_of out ≡ Some (outcome_tree outcome)) }
 {
     match end {
         End::Value(word) => Ok(Outcome::Value(store.get(alloc, word)?)),

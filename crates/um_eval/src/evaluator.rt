@@ -17,7 +17,7 @@ use um_units::NoMemory;
 pub(crate) struct Evaluator<'a> {
     pub(crate) store: Store,
     pub(crate) scope: Scope,
-    /// The values of items that wait for those behind them
+    /// The values of items that wait for those after them
     pub(crate) values: Vec<Word>,
     pub(crate) frames: Vec<Frame<'a>>,
     pub(crate) budget: u64,
@@ -37,7 +37,8 @@ impl<'a> Evaluator<'a> {
     ghost use Rattle.um_eval.specs.declared.frame.Collection.TheVariants as collection;
     ghost use Rattle.um_eval.specs.Tasks.{Evaluate, Give};
     ghost use Rattle.um_eval.specs.Settling.{settled};
-    ghost use Rattle.um_eval.specs.Progress.{frames_of, Within, LeadsTo, Goes, IsVariable, Collects, IsCollected, EndsWith};
+    ghost use Rattle.um_eval.specs.Progress.{frames_of, Within, LeadsTo, Goes, IsVariable, Collects, IsCollected};
+    ghost use Rattle.um_eval.specs.Progress.{EndsWith};
 
     /// Runs until no frame is left, or there is no value.
     pub(crate) fn run(
@@ -46,7 +47,8 @@ impl<'a> Evaluator<'a> {
         first: Next<'a>,
     ) -> Result<End, NoMemory>
         requires { (out : Out ValueTree) × (n : ℕ) × Goes (map function_tree functions.now) self.old first out n }
-        ensures { (out : Out ValueTree) (n : ℕ) → Goes (map function_tree functions.now) self.old first.entry out n → IfOk result (λ end. EndsWith self.new.store end out) }
+        ensures { (out : Out ValueTree) (n : ℕ) → Goes (map function_tree functions.now) self.old first.entry out n
+            → IfOk result (λ end. EndsWith self.new.store end out) }
     {
         let mut next = first;
         loop {
@@ -72,8 +74,10 @@ impl<'a> Evaluator<'a> {
 
     // The first step of an expression.
     fn evaluate(&mut self, functions: &'a [Function], e: &'a Expr) -> Next<'a>
-        requires { (out : Out ValueTree) × (n : ℕ) × LeadsTo (map function_tree functions.now) self.old (Evaluate e) out n }
-        ensures { (out : Out ValueTree) (n : ℕ) → LeadsTo (map function_tree functions.now) self.old (Evaluate e.entry) out (n + 1) → Goes (map function_tree functions.now) self.new result out n }
+        requires { (out : Out ValueTree) × (n : ℕ) × LeadsTo (map function_tree functions.now) self.old
+            (Evaluate e) out n }
+        ensures { (out : Out ValueTree) (n : ℕ) → LeadsTo (map function_tree functions.now) self.old
+            (Evaluate e.entry) out (n + 1) → Goes (map function_tree functions.now) self.new result out n }
     {
         match &e.node {
             Node::Bool(b) => self.give(Word::Bool(*b)),
@@ -100,8 +104,11 @@ impl<'a> Evaluator<'a> {
 
     // The value is handed to the frame that was the innermost.
     fn resume(&mut self, functions: &'a [Function], frame: Frame<'a>) -> Next<'a>
-        requires { (out : Out ValueTree) × (n : ℕ) × Within (map function_tree functions.now) self.old (frame ∷ frames_of self.old) (Give self.old.value) out n }
-        ensures { (out : Out ValueTree) (n : ℕ) → Within (map function_tree functions.now) self.old (frame.entry ∷ frames_of self.old) (Give self.old.value) out (n + 1) → Goes (map function_tree functions.now) self.new result out n }
+        requires { (out : Out ValueTree) × (n : ℕ) × Within (map function_tree functions.now) self.old
+            (frame ∷ frames_of self.old) (Give self.old.value) out n }
+        ensures { (out : Out ValueTree) (n : ℕ) → Within (map function_tree functions.now) self.old
+            (frame.entry ∷ frames_of self.old) (Give self.old.value) out (n + 1)
+            → Goes (map function_tree functions.now) self.new result out n }
     {
         match frame {
             Frame::Operand(op) => self.apply(op),
@@ -130,7 +137,9 @@ impl<'a> Evaluator<'a> {
     // Goes into a part.
     #[inline(always)]
     fn begin(&mut self, frame: Frame<'a>, part: &'a Expr) -> Next<'a>
-        ensures { (fs : List FunctionTree) (out : Out ValueTree) (n : ℕ) → Within fs self.old (frame.entry ∷ frames_of self.old) (Evaluate part.entry) out n → Goes fs self.new result out n }
+        ensures { (fs : List FunctionTree) (out : Out ValueTree) (n : ℕ)
+            → Within fs self.old (frame.entry ∷ frames_of self.old) (Evaluate part.entry) out n
+            → Goes fs self.new result out n }
     {
         match self.frames.push(frame) {
             Ok(()) => Next::Evaluate(part),
@@ -140,7 +149,8 @@ impl<'a> Evaluator<'a> {
 
     #[inline(always)]
     fn give(&mut self, word: Word) -> Next<'a>
-        ensures { (fs : List FunctionTree) (out : Out ValueTree) (n : ℕ) → LeadsTo fs self.old (Give word) out n → Goes fs self.new result out n }
+        ensures { (fs : List FunctionTree) (out : Out ValueTree) (n : ℕ) → LeadsTo fs self.old (Give word) out n
+            → Goes fs self.new result out n }
     {
         self.value = word;
         Next::Give
@@ -149,7 +159,8 @@ impl<'a> Evaluator<'a> {
     // What an operation came to.
     #[inline(always)]
     fn settle(&mut self, outcome: WordOutcome) -> Next<'a>
-        ensures { (fs : List FunctionTree) (out : Out ValueTree) (n : ℕ) → LeadsTo fs self.old (settled outcome) out n → Goes fs self.new result out n }
+        ensures { (fs : List FunctionTree) (out : Out ValueTree) (n : ℕ) → LeadsTo fs self.old (settled outcome) out n
+            → Goes fs self.new result out n }
     {
         match outcome {
             WordOutcome::Value(word) => self.give(word),
@@ -163,7 +174,8 @@ impl<'a> Evaluator<'a> {
 
     #[inline(always)]
     fn variable(&mut self, k: u32) -> Next<'a>
-        ensures { (fs : List FunctionTree) (out : Out ValueTree) (n : ℕ) → IsVariable fs self.old k out n → Goes fs self.new result out n }
+        ensures { (fs : List FunctionTree) (out : Out ValueTree) (n : ℕ) → IsVariable fs self.old k out n
+            → Goes fs self.new result out n }
     {
         match self.scope.get(k as usize) {
             Some(word) => self.give(word),
@@ -174,7 +186,9 @@ impl<'a> Evaluator<'a> {
     // The operation of one part.
     #[inline(never)]
     fn apply(&mut self, op: Unary) -> Next<'a>
-        ensures { (fs : List FunctionTree) (out : Out ValueTree) (n : ℕ) → Within fs self.old (Operand op ∷ frames_of self.old) (Give self.old.value) out (n + 1) → Goes fs self.new result out n }
+        ensures { (fs : List FunctionTree) (out : Out ValueTree) (n : ℕ)
+            → Within fs self.old (Operand op ∷ frames_of self.old) (Give self.old.value) out (n + 1)
+            → Goes fs self.new result out n }
     {
         let outcome = apply(&self.store, op, self.value);
         self.settle(outcome)
@@ -183,8 +197,11 @@ impl<'a> Evaluator<'a> {
     // The operation of two parts.
     #[inline(always)]
     fn combine(&mut self, op: Binary, x: Word) -> Next<'a>
-        requires { (fs : List FunctionTree) × (out : Out ValueTree) × (n : ℕ) × Within fs self.old (Right op x ∷ frames_of self.old) (Give self.old.value) out n }
-        ensures { (fs : List FunctionTree) (out : Out ValueTree) (n : ℕ) → Within fs self.old (Right op x ∷ frames_of self.old) (Give self.old.value) out (n + 1) → Goes fs self.new result out n }
+        requires { (fs : List FunctionTree) × (out : Out ValueTree) × (n : ℕ)
+            × Within fs self.old (Right op x ∷ frames_of self.old) (Give self.old.value) out n }
+        ensures { (fs : List FunctionTree) (out : Out ValueTree) (n : ℕ)
+            → Within fs self.old (Right op x ∷ frames_of self.old) (Give self.old.value) out (n + 1)
+            → Goes fs self.new result out n }
     {
         let y = self.value;
         match operate(&mut self.store, op, x, y) {
@@ -196,7 +213,9 @@ impl<'a> Evaluator<'a> {
     // Goes into the second part of a `let`.
     #[inline(never)]
     fn bind(&mut self, y: &'a Expr) -> Next<'a>
-        ensures { (fs : List FunctionTree) (out : Out ValueTree) (n : ℕ) → Within fs self.old (Bound y.entry ∷ frames_of self.old) (Give self.old.value) out (n + 1) → Goes fs self.new result out n }
+        ensures { (fs : List FunctionTree) (out : Out ValueTree) (n : ℕ)
+            → Within fs self.old (Bound y.entry ∷ frames_of self.old) (Give self.old.value) out (n + 1)
+            → Goes fs self.new result out n }
     {
         let outside = self.scope.len();
         match self.scope.push(self.value) {
@@ -208,7 +227,9 @@ impl<'a> Evaluator<'a> {
     // Goes into an arm of a `match`.
     #[inline(never)]
     fn split(&mut self, x: &'a Expr, y: &'a Expr) -> Next<'a>
-        ensures { (fs : List FunctionTree) (out : Out ValueTree) (n : ℕ) → Within fs self.old (Matched x.entry y.entry ∷ frames_of self.old) (Give self.old.value) out (n + 1) → Goes fs self.new result out n }
+        ensures { (fs : List FunctionTree) (out : Out ValueTree) (n : ℕ)
+            → Within fs self.old (Matched x.entry y.entry ∷ frames_of self.old) (Give self.old.value) out (n + 1)
+            → Goes fs self.new result out n }
     {
         match self.store.split(self.value) {
             None => Next::Wrong,
@@ -231,8 +252,11 @@ impl<'a> Evaluator<'a> {
         c: Collection,
         items: &'a [Expr],
     ) -> Next<'a>
-        requires { (out : Out ValueTree) × (n : ℕ) × Collects (map function_tree functions.now) self.old c (in_order (map expr_tree items.now)) (length self.old.values.items) out n }
-        ensures { (out : Out ValueTree) (n : ℕ) → Collects (map function_tree functions.now) self.old c (in_order (map expr_tree items.now)) (length self.old.values.items) out n → Goes (map function_tree functions.now) self.new result out n }
+        requires { (out : Out ValueTree) × (n : ℕ) × Collects (map function_tree functions.now) self.old c
+            (in_order (map expr_tree items.now)) (length self.old.values.items) out n }
+        ensures { (out : Out ValueTree) (n : ℕ) → Collects (map function_tree functions.now) self.old c
+            (in_order (map expr_tree items.now)) (length self.old.values.items) out n
+            → Goes (map function_tree functions.now) self.new result out n }
     {
         let first = self.values.len();
         self.collect(functions, c, items, first)
@@ -247,8 +271,11 @@ impl<'a> Evaluator<'a> {
         rest: &'a [Expr],
         first: usize,
     ) -> Next<'a>
-        requires { (out : Out ValueTree) × (n : ℕ) × Within (map function_tree functions.now) self.old (Item c rest first ∷ frames_of self.old) (Give self.old.value) out n }
-        ensures { (out : Out ValueTree) (n : ℕ) → Within (map function_tree functions.now) self.old (Item c rest.entry first ∷ frames_of self.old) (Give self.old.value) out (n + 1) → Goes (map function_tree functions.now) self.new result out n }
+        requires { (out : Out ValueTree) × (n : ℕ) × Within (map function_tree functions.now) self.old
+            (Item c rest first ∷ frames_of self.old) (Give self.old.value) out n }
+        ensures { (out : Out ValueTree) (n : ℕ) → Within (map function_tree functions.now) self.old
+            (Item c rest.entry first ∷ frames_of self.old) (Give self.old.value) out (n + 1)
+            → Goes (map function_tree functions.now) self.new result out n }
     {
         match self.values.push(self.value) {
             Ok(()) => self.collect(functions, c, rest, first),
@@ -265,8 +292,11 @@ impl<'a> Evaluator<'a> {
         rest: &'a [Expr],
         first: usize,
     ) -> Next<'a>
-        requires { (out : Out ValueTree) × (n : ℕ) × Collects (map function_tree functions.now) self.old c (in_order (map expr_tree rest.now)) first out n }
-        ensures { (out : Out ValueTree) (n : ℕ) → Collects (map function_tree functions.now) self.old c (in_order (map expr_tree rest.now)) first out n → Goes (map function_tree functions.now) self.new result out n }
+        requires { (out : Out ValueTree) × (n : ℕ) × Collects (map function_tree functions.now) self.old c
+            (in_order (map expr_tree rest.now)) first out n }
+        ensures { (out : Out ValueTree) (n : ℕ) → Collects (map function_tree functions.now) self.old c
+            (in_order (map expr_tree rest.now)) first out n
+            → Goes (map function_tree functions.now) self.new result out n }
     {
         match rest.split_first() {
             Some((item, behind)) => self.begin(Frame::Item(c, behind, first), item),
@@ -277,8 +307,10 @@ impl<'a> Evaluator<'a> {
     // Makes what is collected.
     #[inline(never)]
     fn make(&mut self, functions: &'a [Function], c: Collection, first: usize) -> Next<'a>
-        requires { (out : Out ValueTree) × (n : ℕ) × IsCollected (map function_tree functions.now) self.old c first out n }
-        ensures { (out : Out ValueTree) (n : ℕ) → IsCollected (map function_tree functions.now) self.old c first out n → Goes (map function_tree functions.now) self.new result out n }
+        requires { (out : Out ValueTree) × (n : ℕ) × IsCollected
+            (map function_tree functions.now) self.old c first out n }
+        ensures { (out : Out ValueTree) (n : ℕ) → IsCollected (map function_tree functions.now) self.old c first out n
+            → Goes (map function_tree functions.now) self.new result out n }
     {
         match c {
             Collection::List => self.make_list(first),
@@ -290,8 +322,10 @@ impl<'a> Evaluator<'a> {
     #[inline(never)]
     fn make_list(&mut self, first: usize) -> Next<'a>
         requires place { first ≤ length self.old.values.items }
-        requires all { (fs : List FunctionTree) × (out : Out ValueTree) × (n : ℕ) × IsCollected fs self.old collection.List first out n }
-        ensures { (fs : List FunctionTree) (out : Out ValueTree) (n : ℕ) → IsCollected fs self.old collection.List first out n → Goes fs self.new result out n }
+        requires all { (fs : List FunctionTree) × (out : Out ValueTree) × (n : ℕ)
+            × IsCollected fs self.old collection.List first out n }
+        ensures { (fs : List FunctionTree) (out : Out ValueTree) (n : ℕ)
+            → IsCollected fs self.old collection.List first out n → Goes fs self.new result out n }
     {
         match self.store.make_list(&self.values[first..]) {
             Ok(word) => {
@@ -305,8 +339,10 @@ impl<'a> Evaluator<'a> {
     #[inline(never)]
     fn make_record(&mut self, r: u32, first: usize) -> Next<'a>
         requires place { first ≤ length self.old.values.items }
-        requires all { (fs : List FunctionTree) × (out : Out ValueTree) × (n : ℕ) × IsCollected fs self.old (collection.Rec r) first out n }
-        ensures { (fs : List FunctionTree) (out : Out ValueTree) (n : ℕ) → IsCollected fs self.old (collection.Rec r) first out n → Goes fs self.new result out n }
+        requires all { (fs : List FunctionTree) × (out : Out ValueTree) × (n : ℕ)
+            × IsCollected fs self.old (collection.Rec r) first out n }
+        ensures { (fs : List FunctionTree) (out : Out ValueTree) (n : ℕ)
+            → IsCollected fs self.old (collection.Rec r) first out n → Goes fs self.new result out n }
     {
         match self.store.make_record(r, &self.values[first..]) {
             Ok(word) => {
@@ -320,7 +356,8 @@ impl<'a> Evaluator<'a> {
     /// Calls the function of this number on the values from the place on.
     pub(crate) fn enter(&mut self, functions: &'a [Function], j: u32, first: usize) -> Next<'a>
         requires { first ≤ length self.old.values.items }
-        ensures { (out : Out ValueTree) (n : ℕ) → IsCollected (map function_tree functions.now) self.old (collection.Call j) first out n → Goes (map function_tree functions.now) self.new result out n }
+        ensures { (out : Out ValueTree) (n : ℕ) → IsCollected (map function_tree functions.now) self.old
+            (collection.Call j) first out n → Goes (map function_tree functions.now) self.new result out n }
     {
         match functions.get(j as usize) {
             Some(function) => self.enter_declared(function, first),
@@ -331,7 +368,9 @@ impl<'a> Evaluator<'a> {
     // Calls the function, which stands in the program under its number.
     fn enter_declared(&mut self, function: &'a Function, first: usize) -> Next<'a>
         requires { first ≤ length self.old.values.items }
-        ensures { (fs : List FunctionTree) (j : ℕ) (out : Out ValueTree) (n : ℕ) → slice_get fs j ≡ Some (function_tree function.now) → IsCollected fs self.old (collection.Call j) first out n → Goes fs self.new result out n }
+        ensures { (fs : List FunctionTree) (j : ℕ) (out : Out ValueTree) (n : ℕ) → slice_get fs j
+            ≡ Some (function_tree function.now) → IsCollected fs self.old (collection.Call j) first out n
+            → Goes fs self.new result out n }
     {
         let count = self.values.len() - first;
         if count != function.params.items.len() {
@@ -351,7 +390,7 @@ impl<'a> Evaluator<'a> {
     }
 }
 
-// The first where the truth value is true, the second where it is false.
+// The first if the truth value is true, the second if it is false.
 #[inline(always)]
 fn either<'a>(test: Option<bool>, x: Next<'a>, y: Next<'a>) -> Next<'a>
     ensures { result ≡ either test x.entry y.entry }

@@ -48,7 +48,7 @@ pub(crate) enum Frame<'a> {
     Matched(&'a Expr, &'a Expr),
     /// Behind a binder: how many variables there are outside
     Inner(usize),
-    /// The items behind it, and where the values of those before it begin
+    /// The items after it, and where the values of those before it begin
     Item(Collection, &'a [Expr], usize),
     /// The body of a function: where the caller's variables begin
     Body(usize),

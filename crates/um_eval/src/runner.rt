@@ -2,8 +2,7 @@
 use crate::call::{put_arguments, run_call};
 use std::alloc::Global;
 use std::marker::Model;
-use um_cells::Store;
-use um_runner::Runner;
+use um_cells::{Runner, Store};
 use um_shape::Shaped;
 use um_tree::{Outcome, Values};
 use um_units::NoMemory;

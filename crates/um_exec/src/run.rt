@@ -3,18 +3,17 @@ ghost use Rattle.std.specs.Prelude.{◌≤◌, map, IfOk};
 ghost use Rattle.um_tree.specs.ValueTree.{value_tree, outcome_tree};
 ghost use Rattle.um_machine.specs.Machine.{EndsWith};
 ghost use Rattle.um_verify.specs.ImageTree.{image_tree};
-ghost use Rattle.um_verify.specs.Verified.{IsVerified};
 ghost use Rattle.um_exec.specs.Calls.{IsCallIn, ResultHas};
 
 use std::alloc::Global;
 use um_tree::{Outcome, Values};
 use um_units::NoMemory;
 use um_verifier::Verified;
-use um_verify::{Image, runs_of_verified_images};
-use um_vm::{Machine, Step};
+use um_verify::runs_of_verified_images;
+use um_vm::run_code;
 
 /// Calls function `f` of the image, counted from 0, on values in the order of its parameters. The call itself and each
-/// call that it makes cost one of the budget.
+/// call that it makes take one from the budget.
 ///
 /// `f` is the number of a function of the image, the values have the shapes of its parameters, and the budget is at
 /// most 10,000,000. The call ends as the machine's definition does, with a value of the result's shape, a trap or the
@@ -36,33 +35,9 @@ pub fn exec(
         (outcome_tree outcome)) }
     ensures shape { IfOk result (λ outcome. ResultHas (image_tree image.now) f (outcome_tree outcome)) }
 {
-    run(alloc, image.image(), f, args, budget)
-}
-
-fn run(alloc: Global, image: &Image, f: u32, args: Values, budget: u64) -> Result<Outcome, NoMemory>
-    requires verified { IsVerified (image_tree image.now) }
-    requires call { IsCallIn (image_tree image.now) f (map value_tree args.items.items) }
-    requires budget { budget ≤ 10000000 }
-    ensures end { IfOk result (λ outcome. EndsWith (image_tree image.now).code f
-        (map value_tree args.items.items) budget
-        (outcome_tree outcome)) }
-    ensures shape { IfOk result (λ outcome. ResultHas (image_tree image.now) f (outcome_tree outcome)) }
-{
     runs_of_verified_images();
-    let mut machine = Machine::start(alloc, &image.code, f, args, budget)?;
-    for _ in 0..u64::MAX {
-        match machine.step() {
-            Ok(Step::Going) => {}
-            Ok(Step::Ended(outcome)) => {
-                drop(machine);
-                return Ok(outcome);
-            }
-            Ok(Step::Stuck) => unreachable!(),
-            Err(e) => {
-                drop(machine);
-                return Err(e);
-            }
-        }
+    match run_code(alloc, &image.image().code, f, args, budget) {
+        Ok(counted) => Ok(counted.outcome),
+        Err(e) => Err(e),
     }
-    unreachable!()
 }

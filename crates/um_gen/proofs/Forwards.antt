@@ -8,8 +8,7 @@ use Rattle.um_tree.specs.ExprTree.{ExprTree, ExprTrees, truth, number, local, ca
 use Rattle.um_tree.specs.ProgramTree.{FunctionTree}
 use Rattle.um_machine.specs.declared.op.Op.{Op}
 use Rattle.um_machine.specs.declared.op.Op.TheVariants.{Ret}
-use Rattle.um_machine.specs.Machine.{State, step}
-use Rattle.um_machine.proofs.Rank.{Forward, rank, Falls, step_falls}
+use Rattle.um_machine.specs.Jumps.{GoesForward, JumpsGoForward}
 use Rattle.um_gen.specs.ProgramCode.{arith_op, sign_ops, expr_size, all_size, expr_code, all_code, parameter_places, function_code, functions_code, program_code}
 use Rattle.um_gen.proofs.Stands.{length_code, length_all}
 use Rattle.um_gen.proofs.Sizes.{some}
@@ -18,7 +17,7 @@ use Rattle.um_gen.proofs.LaidOut.{length_function}
 -- instructions from an address whose jumps go forward
 abbrev Forwards : ℕ → List Op → Type 0
 Forwards a [] = Unit {0}
-Forwards a (i ∷ is) = Forward a i × Forwards (a + 1) is
+Forwards a (i ∷ is) = GoesForward a i × Forwards (a + 1) is
 
 one_then : (a z : ℕ) (xs ys : List Op) → Forwards a xs → z ≡ a + length xs → Forwards z ys → Forwards a (xs ++ ys)
 one_then a z [] ys h e k = let same : z ≡ a = omega arith in subst (λ n. Forwards n ys) same k
@@ -87,19 +86,20 @@ functions_forward [] a = tt
 functions_forward (f ∷ fs) a =
     one_then a (a + expr_size f.body + 1) (function_code f a) (functions_code fs (a + expr_size f.body + 1)) (function_forwards f a) (omega (arith, length_function f a)) (functions_forward fs (a + expr_size f.body + 1))
 
-forward_at : (xs : List Op) (a k : ℕ) (i : Op) → Forwards a xs → slice_get xs k ≡ Some i → Forward (a + k) i
+forward_at : (xs : List Op) (a k : ℕ) (i : Op) → Forwards a xs → slice_get xs k ≡ Some i → GoesForward (a + k) i
 forward_at [] a zero i h e = absurd cc
 forward_at [] a (suc k) i h e = absurd cc
 forward_at (x ∷ xs) a zero i h e =
     let same : x ≡ i = cc in
     let here : a ≡ a + zero = omega arith in
-    subst (λ n. Forward n i) here (subst (Forward a) same h.0)
+    subst (λ n. GoesForward n i) here (subst (GoesForward a) same h.0)
 forward_at (x ∷ xs) a (suc k) i h e =
     let there : a + 1 + k ≡ a + suc k = omega arith in
-    subst (λ n. Forward n i) there (forward_at xs (a + 1) k i h.1 e)
+    subst (λ n. GoesForward n i) there (forward_at xs (a + 1) k i h.1 e)
 
--- so each step of a program's code makes the rank fall
-pub generated_falls : (fs : List FunctionTree) (s : State) → Falls (program_code fs) (length (program_code fs).ops) (rank (length (program_code fs).ops) s) (step (program_code fs) s)
+-- so the jumps of a program's code do
+pub generated_forward : (fs : List FunctionTree) → JumpsGoForward (program_code fs)
 unfolding program_code
-generated_falls fs s =
-    step_falls (program_code fs) (λ a i e. let here : 0 + a ≡ a = omega arith in subst (λ n. Forward n i) here (forward_at (functions_code fs 0) 0 a i (functions_forward fs 0) e)) s
+generated_forward fs a i e =
+    let here : 0 + a ≡ a = omega arith in
+    subst (λ n. GoesForward n i) here (forward_at (functions_code fs 0) 0 a i (functions_forward fs 0) e)

@@ -1,4 +1,4 @@
--- The code of expressions behind what is written, where the variables stand at the places that are kept. This mirrors
+-- The code of expressions after what is written, where the variables stand at the places that are kept. This mirrors
 -- the code.
 -- Source: this project's own.
 use Rattle.std.specs.Prelude.{ℕ, ◌+◌, Bool, List, [], ◌∷◌, ◌++◌, length, cond}
@@ -13,11 +13,11 @@ code_in out d e = expr_code e out.places.items d (length out.ops.items)
 abbrev pub all_code_in : Emitter → ℕ → ExprTrees → List Op
 all_code_in out d es = all_code es out.places.items d (length out.ops.items)
 
--- two parts, and the instructions behind them
+-- two parts, and the instructions after them
 abbrev pub pair_in : Emitter → ℕ → ExprTree → ExprTree → List Op → List Op
 pair_in out d x y tail =
     code_in out d x ++ (expr_code y out.places.items (d + 1) (length out.ops.items + expr_size x) ++ tail)
 
--- an instruction, where the test holds
+-- an instruction, if the test holds
 abbrev pub op_where : Bool → Op → List Op
 op_where test op = cond test (op ∷ []) []

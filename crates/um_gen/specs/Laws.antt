@@ -9,7 +9,7 @@ use Rattle.um_tree.specs.InputType.{ValuesHave}
 use Rattle.um_machine.specs.Machine.{EndsWith}
 use Rattle.um_gen.specs.ProgramCode.{program_code}
 
--- Where a function has its shapes, a call on values of its parameters' shapes has an outcome at each budget, and the
+-- If a function has its shapes, a call on values of its parameters' shapes has an outcome at each budget, and the
 -- run of the code ends with it, after some number of steps; fewer steps are never stuck.
 abbrev pub CodeEndsAsMeant : Type 0
 CodeEndsAsMeant =
@@ -18,7 +18,7 @@ CodeEndsAsMeant =
     ValuesHave p.records (values_in_order vs) g.params →
     (o : OutcomeTree) × (outcome_of_call p i vs b ≡ Some o) × EndsWith (program_code p.functions) i vs b o
 
--- Whatever the shapes are: where a call has an outcome, the run of the code ends with it.
+-- Whatever the shapes are: if a call has an outcome, the run of the code ends with it.
 abbrev pub OutcomesAreReached : Type 0
 OutcomesAreReached =
     (p : ProgramTree) (i : ℕ) (vs : List ValueTree) (b : ℕ) (o : OutcomeTree) →

@@ -77,12 +77,12 @@ abbrev mutual
       expr_code x ps d a ++ (expr_code y ps (d + 1) (a + expr_size x) ++ arith_op op ∷ [])
   expr_code (compare at s x y) ps d a =
       expr_code x ps d a ++ (expr_code y ps (d + 1) (a + expr_size x) ++ sign_ops s)
-  -- the second part, or else false
+  -- the second part, or otherwise false
   expr_code (both at x y) ps d a =
       let second = a + expr_size x + 1 in
       let other = second + expr_size y + 1 in
       expr_code x ps d a ++ (JumpIfNot other ∷ (expr_code y ps d second ++ Jump (other + 1) ∷ PushBool false ∷ []))
-  -- true, or else the second part
+  -- true, or otherwise the second part
   expr_code (either at x y) ps d a =
       let second = a + expr_size x + 3 in
       expr_code x ps d a ++ (JumpIfNot second ∷ PushBool true ∷ Jump (second + expr_size y) ∷ expr_code y ps d second)
@@ -93,7 +93,7 @@ abbrev mutual
       ++ (JumpIfNot second ∷ (expr_code x ps d first ++ Jump (second + expr_size y) ∷ expr_code y ps d second))
   expr_code (bind at x y) ps d a =
       expr_code x ps d a ++ (expr_code y (ps ++ d ∷ []) (d + 1) (a + expr_size x) ++ Slide 1 ∷ [])
-  -- the arm of a list with items, and behind it that of the empty list
+  -- the arm of a list with items, and after it that of the empty list
   expr_code (split at l x y) ps d a =
       let full = a + expr_size l + 1 in
       let empty = full + expr_size y + 2 in

@@ -39,7 +39,7 @@ impl Emitter {
         self.ops.len() as u32
     }
 
-    /// The place of variable `k`; 0 where there is none, as in no formed program.
+    /// The place of variable `k`; 0 if there is none, as in no formed program.
     pub(crate) fn place(&self, k: u32) -> u32
         ensures { result ≡ get_or self.now.places.items k 0 }
     {
@@ -59,7 +59,7 @@ impl Emitter {
         Ok(())
     }
 
-    /// Writes an instruction where the test holds.
+    /// Writes an instruction if the test holds.
     pub(crate) fn put_where(&mut self, test: bool, op: Op) -> Result<(), NoMemory>
         ensures ops { OnOk result (self.new.ops.items ≡ self.old.ops.items ++ op_where test op) }
         ensures size { OnOk result (length self.new.ops.items ≡ length self.old.ops.items + length (op_where test op)) }
@@ -89,7 +89,8 @@ impl Emitter {
         requires branch { branch < length self.old.ops.items }
         requires end { end < length self.old.ops.items }
         requires addresses { length self.old.ops.items < 2 ^ 32 }
-        ensures ops { self.new.ops.items ≡ slice_set (slice_set self.old.ops.items branch op) end (Jump (length self.old.ops.items)) }
+        ensures ops { self.new.ops.items ≡ slice_set (slice_set self.old.ops.items branch op) end
+            (Jump (length self.old.ops.items)) }
         ensures size { length self.new.ops.items ≡ length self.old.ops.items }
         ensures places { self.new.places.items ≡ self.old.places.items }
     {

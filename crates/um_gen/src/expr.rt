@@ -11,9 +11,9 @@ use um_machine::Op;
 use um_tree::{Arith, Expr, Node, Sign};
 use um_units::NoMemory;
 
-/// Writes the code of the expression, where `depth` values stand in the frame before.
+/// Writes the code of the expression, when `depth` values stand in the frame before.
 ///
-/// The places of the variables are as before where there is memory.
+/// The places of the variables are as before if there is memory.
 #[cycle(emit)]
 pub(crate) fn emit(out: &mut Emitter, depth: u32, e: &Expr) -> Result<(), NoMemory>
     requires addresses { length out.old.ops.items + expr_size (expr_tree e.now) < 2 ^ 32 }
@@ -64,7 +64,7 @@ fn record_op(r: u32, parts: &[Expr]) -> Op
     Op::MakeRec(r, count_of(parts))
 }
 
-/// How many expressions there are, where their code has its room.
+/// How many expressions there are, if there is room for their code.
 fn count_of(parts: &[Expr]) -> u32
     requires { all_size (in_order (map expr_tree parts.now)) < 2 ^ 32 }
     ensures { result ≡ count (in_order (map expr_tree parts.now)) }
@@ -88,8 +88,10 @@ fn arith_op(op: Arith) -> Op
 fn emit_all(out: &mut Emitter, depth: u32, parts: &[Expr], op: Op) -> Result<(), NoMemory>
     requires addresses { length out.old.ops.items + all_size (in_order (map expr_tree parts.now)) + 1 < 2 ^ 32 }
     requires depth { depth + all_size (in_order (map expr_tree parts.now)) < 2 ^ 32 }
-    ensures ops { OnOk result (out.new.ops.items ≡ out.old.ops.items ++ (all_code_in out.old depth (in_order (map expr_tree parts.now)) ++ op ∷ [])) }
-    ensures size { OnOk result (length out.new.ops.items ≡ length out.old.ops.items + (all_size (in_order (map expr_tree parts.now)) + 1)) }
+    ensures ops { OnOk result (out.new.ops.items ≡ out.old.ops.items
+        ++ (all_code_in out.old depth (in_order (map expr_tree parts.now)) ++ op ∷ [])) }
+    ensures size { OnOk result (length out.new.ops.items
+        ≡ length out.old.ops.items + (all_size (in_order (map expr_tree parts.now)) + 1)) }
     ensures places { OnOk result (out.new.places.items ≡ out.old.places.items) }
 {
     for i in 0..parts.len() {
@@ -103,8 +105,10 @@ fn emit_all(out: &mut Emitter, depth: u32, parts: &[Expr], op: Op) -> Result<(),
 fn emit_one(out: &mut Emitter, depth: u32, a: &Expr, op: Op) -> Result<(), NoMemory>
     requires addresses { length out.old.ops.items + expr_size (expr_tree a.now) + 1 < 2 ^ 32 }
     requires depth { depth + expr_size (expr_tree a.now) + 1 < 2 ^ 32 }
-    ensures ops { OnOk result (out.new.ops.items ≡ out.old.ops.items ++ (code_in out.old depth (expr_tree a.now) ++ op ∷ [])) }
-    ensures size { OnOk result (length out.new.ops.items ≡ length out.old.ops.items + (expr_size (expr_tree a.now) + 1)) }
+    ensures ops { OnOk result (out.new.ops.items ≡ out.old.ops.items
+        ++ (code_in out.old depth (expr_tree a.now) ++ op ∷ [])) }
+    ensures size { OnOk result (length out.new.ops.items
+        ≡ length out.old.ops.items + (expr_size (expr_tree a.now) + 1)) }
     ensures places { OnOk result (out.new.places.items ≡ out.old.places.items) }
 {
     emit(out, depth, a)?;
@@ -114,10 +118,13 @@ fn emit_one(out: &mut Emitter, depth: u32, a: &Expr, op: Op) -> Result<(), NoMem
 /// Writes the parts, and then the instruction that takes both.
 #[cycle(emit)]
 fn emit_two(out: &mut Emitter, depth: u32, a: &Expr, b: &Expr, op: Op) -> Result<(), NoMemory>
-    requires addresses { length out.old.ops.items + (expr_size (expr_tree a.now) + expr_size (expr_tree b.now)) + 1 < 2 ^ 32 }
+    requires addresses { length out.old.ops.items +
+        (expr_size (expr_tree a.now) + expr_size (expr_tree b.now)) + 1 < 2 ^ 32 }
     requires depth { depth + (expr_size (expr_tree a.now) + expr_size (expr_tree b.now)) + 1 < 2 ^ 32 }
-    ensures ops { OnOk result (out.new.ops.items ≡ out.old.ops.items ++ pair_in out.old depth (expr_tree a.now) (expr_tree b.now) (op ∷ [])) }
-    ensures size { OnOk result (length out.new.ops.items ≡ length out.old.ops.items + ((expr_size (expr_tree a.now) + expr_size (expr_tree b.now)) + 1)) }
+    ensures ops { OnOk result (out.new.ops.items ≡ out.old.ops.items
+        ++ pair_in out.old depth (expr_tree a.now) (expr_tree b.now) (op ∷ [])) }
+    ensures size { OnOk result (length out.new.ops.items
+        ≡ length out.old.ops.items + ((expr_size (expr_tree a.now) + expr_size (expr_tree b.now)) + 1)) }
     ensures places { OnOk result (out.new.places.items ≡ out.old.places.items) }
 {
     emit(out, depth, a)?;
@@ -125,7 +132,7 @@ fn emit_two(out: &mut Emitter, depth: u32, a: &Expr, b: &Expr, op: Op) -> Result
     out.put(op)
 }
 
-/// Writes a comparison: its instruction, and `not` where the sign asks for the other truth value.
+/// Writes a comparison: its instruction, and `not` if the sign asks for the other truth value.
 #[cycle(emit)]
 fn emit_compare(
     out: &mut Emitter,
@@ -134,10 +141,13 @@ fn emit_compare(
     a: &Expr,
     b: &Expr,
 ) -> Result<(), NoMemory>
-    requires addresses { length out.old.ops.items + expr_size (compare 0 sign (expr_tree a.now) (expr_tree b.now)) < 2 ^ 32 }
+    requires addresses { length out.old.ops.items + expr_size
+        (compare 0 sign (expr_tree a.now) (expr_tree b.now)) < 2 ^ 32 }
     requires depth { depth + expr_size (compare 0 sign (expr_tree a.now) (expr_tree b.now)) < 2 ^ 32 }
-    ensures ops { OnOk result (out.new.ops.items ≡ out.old.ops.items ++ code_in out.old depth (compare 0 sign (expr_tree a.now) (expr_tree b.now))) }
-    ensures size { OnOk result (length out.new.ops.items ≡ length out.old.ops.items + expr_size (compare 0 sign (expr_tree a.now) (expr_tree b.now))) }
+    ensures ops { OnOk result (out.new.ops.items ≡ out.old.ops.items
+        ++ code_in out.old depth (compare 0 sign (expr_tree a.now) (expr_tree b.now))) }
+    ensures size { OnOk result (length out.new.ops.items
+        ≡ length out.old.ops.items + expr_size (compare 0 sign (expr_tree a.now) (expr_tree b.now))) }
     ensures places { OnOk result (out.new.places.items ≡ out.old.places.items) }
 {
     let (op, is_other) = sign_op(sign);
@@ -162,13 +172,15 @@ fn sign_op(sign: Sign) -> (Op, bool)
     }
 }
 
-/// Writes `&&`: the second part where the first is true, and else `false`.
+/// Writes `&&`: the second part if the first is true, and otherwise `false`.
 #[cycle(emit)]
 fn emit_and(out: &mut Emitter, depth: u32, a: &Expr, b: &Expr) -> Result<(), NoMemory>
     requires addresses { length out.old.ops.items + expr_size (both 0 (expr_tree a.now) (expr_tree b.now)) < 2 ^ 32 }
     requires depth { depth + expr_size (both 0 (expr_tree a.now) (expr_tree b.now)) < 2 ^ 32 }
-    ensures ops { OnOk result (out.new.ops.items ≡ out.old.ops.items ++ code_in out.old depth (both 0 (expr_tree a.now) (expr_tree b.now))) }
-    ensures size { OnOk result (length out.new.ops.items ≡ length out.old.ops.items + expr_size (both 0 (expr_tree a.now) (expr_tree b.now))) }
+    ensures ops { OnOk result (out.new.ops.items ≡ out.old.ops.items
+        ++ code_in out.old depth (both 0 (expr_tree a.now) (expr_tree b.now))) }
+    ensures size { OnOk result (length out.new.ops.items
+        ≡ length out.old.ops.items + expr_size (both 0 (expr_tree a.now) (expr_tree b.now))) }
     ensures places { OnOk result (out.new.places.items ≡ out.old.places.items) }
 {
     emit(out, depth, a)?;
@@ -181,13 +193,15 @@ fn emit_and(out: &mut Emitter, depth: u32, a: &Expr, b: &Expr) -> Result<(), NoM
     Ok(())
 }
 
-/// Writes `||`: `true` where the first part is true, and else the second part.
+/// Writes `||`: `true` if the first part is true, and otherwise the second part.
 #[cycle(emit)]
 fn emit_or(out: &mut Emitter, depth: u32, a: &Expr, b: &Expr) -> Result<(), NoMemory>
     requires addresses { length out.old.ops.items + expr_size (either 0 (expr_tree a.now) (expr_tree b.now)) < 2 ^ 32 }
     requires depth { depth + expr_size (either 0 (expr_tree a.now) (expr_tree b.now)) < 2 ^ 32 }
-    ensures ops { OnOk result (out.new.ops.items ≡ out.old.ops.items ++ code_in out.old depth (either 0 (expr_tree a.now) (expr_tree b.now))) }
-    ensures size { OnOk result (length out.new.ops.items ≡ length out.old.ops.items + expr_size (either 0 (expr_tree a.now) (expr_tree b.now))) }
+    ensures ops { OnOk result (out.new.ops.items ≡ out.old.ops.items
+        ++ code_in out.old depth (either 0 (expr_tree a.now) (expr_tree b.now))) }
+    ensures size { OnOk result (length out.new.ops.items
+        ≡ length out.old.ops.items + expr_size (either 0 (expr_tree a.now) (expr_tree b.now))) }
     ensures places { OnOk result (out.new.places.items ≡ out.old.places.items) }
 {
     emit(out, depth, a)?;
@@ -203,10 +217,13 @@ fn emit_or(out: &mut Emitter, depth: u32, a: &Expr, b: &Expr) -> Result<(), NoMe
 /// Writes a condition and its arms.
 #[cycle(emit)]
 fn emit_if(out: &mut Emitter, depth: u32, c: &Expr, a: &Expr, b: &Expr) -> Result<(), NoMemory>
-    requires addresses { length out.old.ops.items + expr_size (if 0 (expr_tree c.now) (expr_tree a.now) (expr_tree b.now)) < 2 ^ 32 }
+    requires addresses { length out.old.ops.items + expr_size
+        (if 0 (expr_tree c.now) (expr_tree a.now) (expr_tree b.now)) < 2 ^ 32 }
     requires depth { depth + expr_size (if 0 (expr_tree c.now) (expr_tree a.now) (expr_tree b.now)) < 2 ^ 32 }
-    ensures ops { OnOk result (out.new.ops.items ≡ out.old.ops.items ++ code_in out.old depth (if 0 (expr_tree c.now) (expr_tree a.now) (expr_tree b.now))) }
-    ensures size { OnOk result (length out.new.ops.items ≡ length out.old.ops.items + expr_size (if 0 (expr_tree c.now) (expr_tree a.now) (expr_tree b.now))) }
+    ensures ops { OnOk result (out.new.ops.items ≡ out.old.ops.items
+        ++ code_in out.old depth (if 0 (expr_tree c.now) (expr_tree a.now) (expr_tree b.now))) }
+    ensures size { OnOk result (length out.new.ops.items
+        ≡ length out.old.ops.items + expr_size (if 0 (expr_tree c.now) (expr_tree a.now) (expr_tree b.now))) }
     ensures places { OnOk result (out.new.places.items ≡ out.old.places.items) }
 {
     emit(out, depth, c)?;
@@ -224,8 +241,10 @@ fn emit_if(out: &mut Emitter, depth: u32, c: &Expr, a: &Expr, b: &Expr) -> Resul
 fn emit_let(out: &mut Emitter, depth: u32, a: &Expr, b: &Expr) -> Result<(), NoMemory>
     requires addresses { length out.old.ops.items + expr_size (bind 0 (expr_tree a.now) (expr_tree b.now)) < 2 ^ 32 }
     requires depth { depth + expr_size (bind 0 (expr_tree a.now) (expr_tree b.now)) < 2 ^ 32 }
-    ensures ops { OnOk result (out.new.ops.items ≡ out.old.ops.items ++ code_in out.old depth (bind 0 (expr_tree a.now) (expr_tree b.now))) }
-    ensures size { OnOk result (length out.new.ops.items ≡ length out.old.ops.items + expr_size (bind 0 (expr_tree a.now) (expr_tree b.now))) }
+    ensures ops { OnOk result (out.new.ops.items ≡ out.old.ops.items
+        ++ code_in out.old depth (bind 0 (expr_tree a.now) (expr_tree b.now))) }
+    ensures size { OnOk result (length out.new.ops.items
+        ≡ length out.old.ops.items + expr_size (bind 0 (expr_tree a.now) (expr_tree b.now))) }
     ensures places { OnOk result (out.new.places.items ≡ out.old.places.items) }
 {
     emit(out, depth, a)?;
@@ -235,14 +254,17 @@ fn emit_let(out: &mut Emitter, depth: u32, a: &Expr, b: &Expr) -> Result<(), NoM
     out.put(Op::Slide(1))
 }
 
-/// Writes `match` on a list: behind it the arm of a list with items, whose head and tail stay in the frame while it
+/// Writes `match` on a list: after it the arm of a list with items, whose head and tail stay in the frame while it
 /// runs, and then the arm of the empty list.
 #[cycle(emit)]
 fn emit_match(out: &mut Emitter, depth: u32, l: &Expr, a: &Expr, b: &Expr) -> Result<(), NoMemory>
-    requires addresses { length out.old.ops.items + expr_size (split 0 (expr_tree l.now) (expr_tree a.now) (expr_tree b.now)) < 2 ^ 32 }
+    requires addresses { length out.old.ops.items + expr_size
+        (split 0 (expr_tree l.now) (expr_tree a.now) (expr_tree b.now)) < 2 ^ 32 }
     requires depth { depth + expr_size (split 0 (expr_tree l.now) (expr_tree a.now) (expr_tree b.now)) < 2 ^ 32 }
-    ensures ops { OnOk result (out.new.ops.items ≡ out.old.ops.items ++ code_in out.old depth (split 0 (expr_tree l.now) (expr_tree a.now) (expr_tree b.now))) }
-    ensures size { OnOk result (length out.new.ops.items ≡ length out.old.ops.items + expr_size (split 0 (expr_tree l.now) (expr_tree a.now) (expr_tree b.now))) }
+    ensures ops { OnOk result (out.new.ops.items ≡ out.old.ops.items
+        ++ code_in out.old depth (split 0 (expr_tree l.now) (expr_tree a.now) (expr_tree b.now))) }
+    ensures size { OnOk result (length out.new.ops.items
+        ≡ length out.old.ops.items + expr_size (split 0 (expr_tree l.now) (expr_tree a.now) (expr_tree b.now))) }
     ensures places { OnOk result (out.new.places.items ≡ out.old.places.items) }
 {
     emit(out, depth, l)?;

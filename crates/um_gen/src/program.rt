@@ -1,5 +1,5 @@
 //! The code of programs.
-ghost use Rattle.std.specs.Prelude.{◌≡◌, ◌+◌, ◌<◌, ◌≤◌, ◌^◌, ◌++◌, [], length, map, IfOk, OnOk};
+ghost use Rattle.std.specs.Prelude.{◌≡◌, ◌+◌, ◌<◌, ◌^◌, ◌++◌, length, IfOk, OnOk};
 ghost use Rattle.std.specs.List.{range_with_len};
 ghost use Rattle.um_tree.specs.ExprTree.{expr_tree};
 ghost use Rattle.um_tree.specs.ProgramTree.{function_tree, program_tree};
@@ -38,8 +38,10 @@ pub fn generate(alloc: Global, shaped: &Shaped) -> Result<Code, NoMemory>
 fn emit_function(out: &mut Emitter, function: &Function) -> Result<Entry, NoMemory>
     requires addresses { length out.old.ops.items + expr_size (expr_tree function.now.body) + 1 < 2 ^ 32 }
     requires depth { length (function_tree function.now).params + expr_size (expr_tree function.now.body) < 2 ^ 32 }
-    ensures ops { OnOk result (out.new.ops.items ≡ out.old.ops.items ++ function_code (function_tree function.now) (length out.old.ops.items)) }
-    ensures entry { IfOk result (λ entry. entry ≡ function_entry (function_tree function.now) (length out.old.ops.items)) }
+    ensures ops { OnOk result (out.new.ops.items ≡ out.old.ops.items
+        ++ function_code (function_tree function.now) (length out.old.ops.items)) }
+    ensures entry { IfOk result (λ entry. entry ≡ function_entry (function_tree function.now)
+        (length out.old.ops.items)) }
 {
     let start = out.address();
     let params = function.params.items.len() as u32;

@@ -8,7 +8,7 @@ use Rattle.um_tree.specs.TypeTree.{ShapeTree, bool_shape, num_shape, list_shape,
 use Rattle.um_tree.specs.Heights.{greatest_height}
 use Rattle.um_shape.specs.RecordShapes.{RecordShape, declared_height, shape_height}
 use Rattle.um_machine.specs.Stack.{takes}
-use Rattle.um_verify.specs.StackShape.{StackShape, void, bool, num, list, made, on_stack, fits, join, fit_all, both, join_all, join_with, join_items, stack_height}
+use Rattle.um_verify.specs.StackShape.{StackShape, void, bool, num, list, made, on_stack, fits, join, fit_all, join_cons, join_all, join_with, join_items, stack_height}
 use Rattle.um_verify.specs.Rules.{Sent, Flow, fails, low_state, low_states}
 use Rattle.um_verify.specs.Verified.{Met, nobody, arrived, joined, merge, gather}
 use Rattle.um_verify.proofs.Fits.{equal_numbers, same_number}
@@ -23,9 +23,9 @@ apart m n h = grind (arith, nat_tests)
 -- ---- joins
 
 all_self : (st : List StackShape) (s t w : StackShape) → join s t ≡ Some w → join_all (st ++ s ∷ []) (st ++ t ∷ []) ≡ Some (st ++ w ∷ [])
-all_self [] s t w h = ap (λ (o : Option StackShape). both o (Some [])) h
+all_self [] s t w h = ap (λ (o : Option StackShape). join_cons o (Some [])) h
 all_self (x ∷ st) s t w h =
-    ap (λ (o : Option (List StackShape)). both (join x x) o) (all_self st s t w h) ∙ ap (λ (o : Option StackShape). both o (Some (st ++ w ∷ []))) (join_self x)
+    ap (λ (o : Option (List StackShape)). join_cons (join x x) o) (all_self st s t w h) ∙ ap (λ (o : Option StackShape). join_cons o (Some (st ++ w ∷ []))) (join_self x)
   where
     join_self : (s : StackShape) → join s s ≡ Some s
     join_self void = refl

@@ -1,4 +1,4 @@
--- The items of an image, and its bytes: those of its items, one behind the other. A number stands with its most
+-- The items of an image, and its bytes: those of its items, one after the other. A number stands with its most
 -- significant byte first.
 -- Source: this project's own form.
 use Rattle.std.specs.Prelude.{ℤ, ℕ, zero, suc, ◌-◌, cond, List, [], ◌∷◌, ◌++◌, length, map, take, drop, codes}
@@ -41,7 +41,7 @@ long_bytes n = to_be_bytes w64 (cast_unsigned w64 n)
 abbrev pub name_items : List ℕ → List Item
 name_items name = written (four_bytes (length name)) ∷ written name ∷ []
 
--- a shape of at most n levels; none may stand behind the last
+-- a shape of at most n levels; none may stand after the last
 abbrev pub shape_items : ℕ → ShapeTree → List Item
 shape_items zero s = forbidden ∷ []
 shape_items (suc n) bool_shape = written (0 ∷ []) ∷ []

@@ -12,7 +12,7 @@ use Rattle.um_image.specs.declared.function.Functions.{Functions}
 use Rattle.um_image.specs.Encoding.{FunctionPart, ImageParts}
 use Rattle.um_image.specs.Reading.{◌>>=◌, Fails, function_at}
 
--- the entries of functions that stand one behind the other, from an address on
+-- the entries of functions that stand one after the other, from an address on
 abbrev pub entries_from : ℕ → List FunctionPart → List Entry
 entries_from a [] = []
 entries_from a (f ∷ fs) =

@@ -30,7 +30,7 @@ GeneratedIsVerified =
 
 -- ---- reading
 
--- the answer is this image, or memory was wanting
+-- the answer is this image, or memory ran out
 abbrev pub IsDecoded : ImageTree → Result Image DecodeStop → Type 0
 IsDecoded image (Ok found) = image_tree found ≡ image
 IsDecoded image (Err (stop.Bad at)) = ⊥

@@ -75,7 +75,7 @@ pub record BeginsImage (front : List Item) : Type 0 where
   pub begins : parts_items parts ≡ front ++ others
 
 -- At this place of the bytes: the items before it begin those of an image, no image's items go on with one that stands
--- here, and where they are all of an image's, bytes follow.
+-- here, and if they are all of an image's, bytes follow.
 pub record IsBadAt (bytes : List ℕ) (at : ℕ) : Type 0 where
   pub front : List Item
   pub rest : List ℕ

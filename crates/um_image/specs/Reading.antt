@@ -25,7 +25,7 @@ use Rattle.um_image.specs.declared.form.Counted.TheVariants as counted
 use Rattle.um_image.specs.Encoding.{FunctionPart, ImageParts}
 use Rattle.um_image.specs.ProgramImage.{type_of_shape}
 
--- Reading gives a value and the bytes behind it, or how many bytes are left from the first item on that is refused.
+-- Reading gives a value and the bytes after it, or how many bytes are left from the first item on that is refused.
 infixl 10 ◌>>=◌
 abbrev pub ◌>>=◌ : {A B : Type 0} → Result A ℕ → (A → Result B ℕ) → Result B ℕ
 (Ok x) >>= f = f x
@@ -46,7 +46,7 @@ abbrev pub many_at : {A : Type 0} → (List ℕ → Result (A × List ℕ) ℕ) 
 many_at read zero bytes = Ok ([], bytes)
 many_at read (suc n) bytes = read bytes >>= λ x. many_at read n x.1 >>= λ xs. Ok (x.0 ∷ xs.0, xs.1)
 
--- behind those that were read before
+-- after those that were read before
 abbrev pub with_front : {A : Type 0} → List A → Result (List A × List ℕ) ℕ → Result (List A × List ℕ) ℕ
 with_front front read = read >>= λ x. Ok (front ++ x.0, x.1)
 
@@ -135,7 +135,7 @@ abbrev pub found : {A : Type 0} → ℕ → List (ℕ × A) → Option A
 found b [] = None
 found b (x ∷ xs) = cond (b == x.0) (Some x.1) (found b xs)
 
--- what stands behind the number of an instruction
+-- what stands after the number of an instruction
 abbrev pub forms : List (ℕ × Form)
 forms =
     (0, form.Fraction) ∷ (1, form.Truth) ∷ (2, form.Number counted.Load) ∷ (3, form.Alone Add) ∷ (4, form.Alone Sub)
@@ -189,7 +189,7 @@ function_at bytes = head_at bytes >>= λ h. ops_at h.1 >>= λ ops. Ok (record { 
 unfoldable pub functions_at : List ℕ → Result (List FunctionPart × List ℕ) ℕ
 functions_at bytes = number_at bytes >>= λ n. many_at function_at n.0 n.1
 
--- the same, where nothing stands behind
+-- the same, if nothing follows
 unfoldable pub last_functions_at : List ℕ → Result (List FunctionPart) ℕ
 last_functions_at bytes = functions_at bytes >>= λ fs. if length fs.1 == 0 then Ok fs.0 else Err (length fs.1)
 

@@ -21,8 +21,8 @@ use um_verify::{Heads, Image};
 ///
 /// # Errors
 ///
-/// `Bad` where they are no image's, with the first byte of the first item that cannot stand there, or the first byte
-/// behind the end. An item is the four letters, a count, a name's length, a name's bytes, the number of a shape, the
+/// `Bad` if they aren't an image's, with the first byte of the first item that cannot stand there, or the first byte
+/// after the end. An item is the four letters, a count, a name's length, a name's bytes, the number of a shape, the
 /// number of a record, that of an instruction, a fraction, a truth value or another operand; a shape inside 400 others
 /// cannot stand. What a name's bytes are isn't looked at. `NoMemory` may come with any bytes.
 ///

@@ -18,9 +18,9 @@ use um_tree::{FieldDecl, Name, Record, Shape, Ty};
 use um_units::NoMemory;
 use um_verify::{Head, Image};
 
-/// The bytes of the image: `UMI1`, its records and its functions, each behind its count.
+/// The bytes of the image: `UMI1`, its records and its functions, each after its count.
 ///
-/// A name stands behind its length. A shape is 0 for `bool`, 1 for `num`, 2 and the shape of its items for a list, and
+/// A name stands after its length. A shape is 0 for `bool`, 1 for `num`, 2 and the shape of its items for a list, and
 /// 3 and its number for a record. An instruction is its number, and its operands. Numbers have four bytes, the most
 /// significant first; a fraction has two of eight, and a truth value is a byte.
 ///
@@ -135,7 +135,7 @@ fn put_fields(out: &mut Vec<u8>, fields: &[FieldDecl]) -> Result<(), AllocError>
     Ok(())
 }
 
-/// Adds the records behind their count.
+/// Adds the records after their count.
 fn put_records(out: &mut Vec<u8>, records: &[Record]) -> Result<(), AllocError>
     requires count { length records.now < 2 ^ 32 }
     requires plain { All IsPlainRecord (map record_tree records.now) }
@@ -207,7 +207,7 @@ fn put_operand(out: &mut Vec<u8>, operand: Operand) -> Result<(), AllocError>
     }
 }
 
-/// Adds an operand, where there is one.
+/// Adds an operand, if there is one.
 fn put_some(out: &mut Vec<u8>, operand: Option<Operand>) -> Result<(), AllocError>
     ensures { OnOk result (out.new.items ≡ out.old.items ++ flat_map operand_bytes (option_to_list operand)) }
 {
@@ -226,7 +226,7 @@ fn put_op(out: &mut Vec<u8>, op: Op) -> Result<(), AllocError>
     put_some(out, second)
 }
 
-/// Adds the instructions behind their count.
+/// Adds the instructions after their count.
 fn put_ops(out: &mut Vec<u8>, ops: &[Op]) -> Result<(), AllocError>
     requires count { length ops.now < 2 ^ 32 }
     ensures { OnOk result (out.new.items ≡ out.old.items ++ four_bytes (length ops.now) ++ flat_map op_bytes ops.now) }
@@ -238,7 +238,7 @@ fn put_ops(out: &mut Vec<u8>, ops: &[Op]) -> Result<(), AllocError>
     Ok(())
 }
 
-/// Adds the shapes behind their count.
+/// Adds the shapes after their count.
 fn put_shapes(out: &mut Vec<u8>, shapes: &[Shape]) -> Result<(), AllocError>
     requires count { length shapes.now < 2 ^ 32 }
     ensures { OnOk result (out.new.items
@@ -262,7 +262,7 @@ fn put_function(out: &mut Vec<u8>, head: &Head, ops: &[Op]) -> Result<(), AllocE
     put_ops(out, ops)
 }
 
-/// Adds the functions behind their count.
+/// Adds the functions after their count.
 fn put_functions(
     out: &mut Vec<u8>,
     heads: &[Head],

@@ -1,4 +1,4 @@
-//! What stands behind the number of an instruction.
+//! What stands after the number of an instruction.
 ghost use Rattle.std.specs.Prelude.{◌≡◌};
 ghost use Rattle.um_image.specs.Reading.{found, forms, with_number};
 
@@ -17,7 +17,7 @@ pub(crate) enum Counted {
     Call,
 }
 
-/// What stands behind the number of an instruction.
+/// What stands after the number of an instruction.
 #[derive(Clone, Copy)]
 pub(crate) enum Form {
     /// Nothing: the instruction is this

@@ -23,7 +23,7 @@ pub(crate) struct Functions {
     pub entries: Vec<Entry>,
 }
 
-/// What stands behind the number of an instruction.
+/// What stands after the number of an instruction.
 #[tactic(auto, unfolding(crate::specs::Reading::operands_at))]
 fn read_operands(form: Form, bytes: &[u8]) -> Result<(Op, &[u8]), ReadStop>
     ensures { Gives (λ x. (x.0, x.1.now)) result (operands_at form bytes.now) }
@@ -143,7 +143,7 @@ fn add_functions<'a>(
     Ok(rest)
 }
 
-/// Adds the functions behind their count, which are the rest of the bytes.
+/// Adds the functions after their count, which are the rest of the bytes.
 fn add_rest(alloc: Global, functions: &mut Functions, bytes: &[u8]) -> Result<(), ReadStop>
     requires empty { Holds functions.old [] }
     requires few { length bytes.now ≤ 16777216 }
@@ -158,7 +158,7 @@ fn add_rest(alloc: Global, functions: &mut Functions, bytes: &[u8]) -> Result<()
     }
 }
 
-/// The functions behind their count, which are the rest of the bytes.
+/// The functions after their count, which are the rest of the bytes.
 pub(crate) fn read_last_functions(alloc: Global, bytes: &[u8]) -> Result<Functions, ReadStop>
     requires { length bytes.now ≤ 16777216 }
     ensures { AreLastFunctions result (last_functions_at bytes.now) }

@@ -102,7 +102,7 @@ fn long_of(bytes: &[u8]) -> i64
     ])
 }
 
-/// The fraction with these parts, where they are in lowest terms and within its range.
+/// The fraction with these parts, if they are in lowest terms and within its range.
 fn fraction_of(num: i64, den: i64) -> Option<Frac>
     ensures { result ≡ fraction num den }
 {

@@ -1,14 +1,14 @@
 //! The laws of images, as contracts of functions that do nothing. A crate above cites the law that it needs.
 ghost use Rattle.um_image.specs.Laws.{GeneratedIsVerified, PlacesAreUnique, BadBytesAreNoImage, BytesSpellOneImage};
 
-/// The image of a shaped program with the code that is generated for it is verified, where its names are short enough
+/// The image of a shaped program with the code that is generated for it is verified, if its names are short enough
 /// to be written.
 pub fn image_of_generated_code()
     ensures verified { GeneratedIsVerified }
 {}
 
-/// Bytes are those of one image at most. Bytes that are no image's are refused at one place, and those of an image at
-/// none.
+/// Bytes are those of one image at most. Bytes that aren't an image's are refused at one place, and those of an image
+/// at none.
 pub fn bytes_of_images()
     ensures one_image { BytesSpellOneImage }
     ensures one_place { PlacesAreUnique }

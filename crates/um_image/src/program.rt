@@ -1,6 +1,6 @@
 //! The image of a program.
 ghost use Rattle.std.specs.Prelude.{◌≡◌, ◌<◌, ◌++◌, IfOk, OnOk, length, map};
-ghost use Rattle.um_tree.specs.TypeTree.{shape_tree, type_tree, note_tree, note_trees};
+ghost use Rattle.um_tree.specs.TypeTree.{shape_tree, type_tree, note_tree};
 ghost use Rattle.um_tree.specs.ProgramTree.{field_tree, record_tree, program_tree};
 ghost use Rattle.um_tree.specs.Shapes.{note_shape};
 ghost use Rattle.um_gen.specs.ProgramCode.{program_code};

@@ -67,7 +67,7 @@ fn add_shapes<'a>(
     Ok(rest)
 }
 
-/// Shapes behind their count.
+/// Shapes after their count.
 #[tactic(auto, unfolding(crate::specs::Reading::shapes_at))]
 pub(crate) fn read_shapes(alloc: Global, bytes: &[u8]) -> Result<(Shapes, &[u8]), ReadStop>
     ensures { Gives (λ x. (map shape_tree x.0.items.items, x.1.now)) result (shapes_at bytes.now) }
@@ -144,7 +144,7 @@ fn add_fields<'a>(
     Ok(rest)
 }
 
-/// Fields behind their count.
+/// Fields after their count.
 #[tactic(auto, unfolding(crate::specs::Reading::fields_at))]
 fn read_fields(alloc: Global, bytes: &[u8]) -> Result<(FieldDecls, &[u8]), ReadStop>
     ensures { Gives (λ x. (map field_tree x.0.items.items, x.1.now)) result (fields_at bytes.now) }
@@ -194,7 +194,7 @@ fn add_records<'a>(
     Ok(rest)
 }
 
-/// Records behind their count.
+/// Records after their count.
 #[tactic(auto, unfolding(crate::specs::Reading::records_at))]
 pub(crate) fn read_records(alloc: Global, bytes: &[u8]) -> Result<(Records, &[u8]), ReadStop>
     ensures { Gives (λ x. (map record_tree x.0.items.items, x.1.now)) result (records_at bytes.now) }

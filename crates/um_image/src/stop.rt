@@ -1,12 +1,12 @@
-//! Why bytes are no image.
+//! Why bytes aren't an image.
 
 use std::alloc::{AllocError, AllocFailed};
 use thiserror::Error;
 
-/// Why bytes are no image.
+/// Why bytes aren't an image.
 #[derive(Clone, Copy, Debug, PartialEq, Eq, Error)]
 pub enum DecodeStop {
-    /// The first byte of the first item that is cut or that cannot stand there, or the first byte behind the end.
+    /// The first byte of the first item that is cut or that cannot stand there, or the first byte after the end.
     #[error("no image")]
     Bad { at: u32 },
     /// No memory was left.

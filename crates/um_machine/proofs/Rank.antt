@@ -1,4 +1,4 @@
--- Where jumps go forward, each step makes a number fall: so a run ends, whatever the code means.
+-- If jumps go forward, each step makes a number fall: so a run ends, whatever the code means.
 use Rattle.std.proofs.Common.{◌≡◌, refl, ap, ℕ, zero, suc, ◌+◌, ◌-◌, ◌*◌, ◌<◌, true, false, cond, List, [], ◌∷◌, ◌++◌, length, take, drop, Option, Some, None, Result, Ok, Err, slice_get, arith}
 use Rattle.std.specs.Prelude.{nat_le, nat_lt}
 use Rattle.std.proofs.lemmas.Option.{slice_get_within}
@@ -11,33 +11,8 @@ use Rattle.um_machine.specs.declared.op.Op.TheVariants.{PushNum, PushBool, Load,
 use Rattle.um_machine.specs.declared.code.Entry.{Entry}
 use Rattle.um_machine.specs.declared.code.Code.{Code}
 use Rattle.um_machine.specs.Stack.{takes, on_one, on_two, on_found}
+use Rattle.um_machine.specs.Jumps.{GoesForward, JumpsGoForward}
 use Rattle.um_machine.specs.Machine.{Frame, State, Step, going, done, stuck, op_within, op_at, arrive, goes, pushes, after, part_of, by_truth, by_list, takes_one, takes_two, gathers, spends, begun, enters, returns, act, step}
-
--- a jump of the instruction at this address goes forward
-abbrev pub Forward : ℕ → Op → Type 0
-Forward a (PushNum c) = Unit {0}
-Forward a (PushBool b) = Unit {0}
-Forward a (Load k) = Unit {0}
-Forward a Add = Unit {0}
-Forward a Sub = Unit {0}
-Forward a Mul = Unit {0}
-Forward a Div = Unit {0}
-Forward a Neg = Unit {0}
-Forward a Not = Unit {0}
-Forward a Lt = Unit {0}
-Forward a Le = Unit {0}
-Forward a Eq = Unit {0}
-Forward a (Jump t) = a < t
-Forward a (JumpIfNot t) = a < t
-Forward a (MakeList n) = Unit {0}
-Forward a Cons = Unit {0}
-Forward a (Split t) = a < t
-Forward a (MakeRec r n) = Unit {0}
-Forward a (Field k) = Unit {0}
-Forward a (Slide k) = Unit {0}
-Forward a (Call f) = Unit {0}
-Forward a Ret = Unit {0}
-Forward a (Pow k) = Unit {0}
 
 -- what the callers have still to do, at most
 abbrev pub waits : ℕ → Frame → List Frame → ℕ
@@ -146,7 +121,7 @@ module _ (code : Code) (l : ℕ) where
       let same : waits l s.running s.callers ≡ (l - s.running.back) + waits l g gs = ap (waits l s.running) e in
       arrive_falls (rank l s) (record { at = s.running.back; stack = low ++ y ∷ []; running = g; callers = gs; budget = s.budget }) (omega arith)
 
-  act_falls : (s : State) (i : Op) → Forward s.at i → s.at < l → Falls (rank l s) (act code s i)
+  act_falls : (s : State) (i : Op) → GoesForward s.at i → s.at < l → Falls (rank l s) (act code s i)
   act_falls s (PushNum c) f q = pushes_move s s.stack (number_value c) q
   act_falls s (PushBool b) f q = pushes_move s s.stack (truth_value b) q
   act_falls s (Load k) f q = found_falls (rank l s) (slice_get s.stack (s.running.base + k)) (pushes code s s.stack) (λ v. pushes_move s s.stack v q)
@@ -175,11 +150,11 @@ module _ (code : Code) (l : ℕ) where
       takes_falls (rank l s) s.running.base 1 s.stack _ (λ low vs. one_falls (rank l s) vs (λ y. returns code s y (take s.running.base low) s.callers) (λ y. returns_fall s y (take s.running.base low) s.callers refl q))
   act_falls s (Pow k) f q = takes_one_falls s (raised k) q
 
-  some_falls : (s : State) (o : Option Op) → ((i : Op) → o ≡ Some i → Forward s.at i × (s.at < l)) → Falls (rank l s) (on_found o stuck (act code s))
+  some_falls : (s : State) (o : Option Op) → ((i : Op) → o ≡ Some i → GoesForward s.at i × (s.at < l)) → Falls (rank l s) (on_found o stuck (act code s))
   some_falls s None f = tt
   some_falls s (Some i) f = let g = f i refl in act_falls s i g.0 g.1
 
-pub step_falls : (code : Code) → ((a : ℕ) (i : Op) → slice_get code.ops a ≡ Some i → Forward a i) → (s : State) → Falls code (length code.ops) (rank (length code.ops) s) (step code s)
+pub step_falls : (code : Code) → JumpsGoForward code → (s : State) → Falls code (length code.ops) (rank (length code.ops) s) (step code s)
 unfolding step
 step_falls code forward s =
     some_falls code (length code.ops) s (op_at code s.running.function s.at) (λ i e. let g = op_is code s.running.function s.at i e in (forward s.at i g, slice_get_within code.ops s.at i g))

@@ -2,3 +2,5 @@
 pub mod Table
 pub mod Stack
 pub mod Machine
+-- Code whose runs end, since its jumps go forward.
+pub mod Jumps

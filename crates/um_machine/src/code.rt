@@ -47,7 +47,7 @@ impl Ops {
 pub struct Entry {
     /// The address of its first instruction
     pub start: u32,
-    /// The address behind its last one
+    /// The address after its last one
     pub end: u32,
     pub params: u32,
 }

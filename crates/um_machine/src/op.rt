@@ -28,13 +28,13 @@ pub enum Op {
     Eq,
     /// Goes to this address
     Jump(u32),
-    /// Takes `y` and goes to this address where it is false
+    /// Takes `y` and goes to this address if it is false
     JumpIfNot(u32),
     /// Takes so many values and pushes their list, the deepest first
     MakeList(u32),
     /// Takes the list `y` and `x` and pushes the list with `x` before `y`
     Cons,
-    /// Takes the list `y`; goes to this address where it is empty, and else pushes its head and then its tail
+    /// Takes the list `y`; goes to this address if it is empty, and otherwise pushes its head and then its tail
     Split(u32),
     /// Takes so many values as the second number says and pushes the record of the first number of them, the deepest
     /// first

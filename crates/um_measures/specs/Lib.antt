@@ -2,6 +2,7 @@
 pub mod Faults
 pub mod Known
 pub mod UnitNames
+pub mod Wildcards
 pub mod ClosedUnits
 pub mod Variables
 pub mod Scopes

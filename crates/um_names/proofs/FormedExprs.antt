@@ -20,9 +20,10 @@ use Rattle.um_names.specs.declared.callable.FieldNumber.{FieldNumber}
 use Rattle.um_measures.specs.Faults.{Found, and_then, hole, unless_taken}
 use Rattle.um_measures.specs.Known.{Known, number_of, names_of_fields, measure_unit}
 use Rattle.um_measures.specs.UnitNames.{resolved_unit}
+use Rattle.um_measures.specs.Wildcards.{is_zero}
 use Rattle.um_names.specs.TypeNames.{resolved_type}
 use Rattle.um_measures.specs.Scopes.{Scope, local_of, same_binding}
-use Rattle.um_names.specs.ExprNames.{callable_of, named, called, same_names, field_or, field_of, if_same_names, with_all_fields, record_of, length_of, field_text_names, known_fields, found_record, resolved_fields, found_field, is_zero, resolved_literal, resolved_expr, resolved_exprs, resolved_parts}
+use Rattle.um_names.specs.ExprNames.{callable_of, named, called, same_names, field_or, field_of, if_same_names, with_all_fields, record_of, length_of, field_text_names, known_fields, found_record, resolved_fields, found_field, resolved_literal, resolved_expr, resolved_exprs, resolved_parts}
 use Rattle.um_names.specs.Readable.{IsReadExpr, AreReadExprs, AreReadFields}
 use Rattle.um_measures.proofs.NameLists.{number_of-below}
 use Rattle.um_measures.proofs.Scopes.{local_below}
@@ -145,7 +146,7 @@ module _ (known : Known) (variables : List (List ℕ)) (callables : List Callabl
       let same : number at c (note.Written one) ≡ e = cc h in
       subst (λ z. IsGood n z 1 1) same ((IsClosed-one, (in_one (length known.program.bases) 0).0), omega arith, omega arith)
   literal_in n at c (Some (hole_syntax place)) e h = by (is_zero (numerator c)) refl h where
-    by : (b : Bool) → is_zero (numerator c) ≡ b → cond b (Ok (number at c note.Hole)) (Err (hole at)) ≡ Ok e → IsGood n e 1 1
+    by : (b : Bool) → is_zero (numerator c) ≡ b → and_then (cond b (Ok note.Hole) (Err (hole at))) (λ unit. Ok (number at c unit)) ≡ Ok e → IsGood n e 1 1
     by true g k = let same : number at c note.Hole ≡ e = cc k in subst (λ z. IsGood n z 1 1) same (is_zero-is (numerator c) g, omega arith, omega arith)
     by false g k = absurd cc
   literal_in n at c (Some (unit_note_syntax place u)) e h =

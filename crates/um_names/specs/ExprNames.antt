@@ -1,11 +1,10 @@
 -- The expression of an expression text, or its first fault.
 -- Source: static scope as in ML; the order of the checks is this project's own.
 -- A variable is found from the end of the scope, so that a later one hides an earlier one and a function.
-use Rattle.std.specs.Prelude.{ℕ, suc, Bool, true, false, cond, slice_get, map, ◌==◌, ◌&&◌, List, [], ◌∷◌, ◌++◌, ℤ}
-use Rattle.std.specs.Prelude.{pos, negsuc, Option, Some, None, Ok, Err}
+use Rattle.std.specs.Prelude.{ℕ, suc, Bool, true, false, cond, slice_get, map, ◌==◌, ◌&&◌, List, [], ◌∷◌, ◌++◌}
+use Rattle.std.specs.Prelude.{Option, Some, None, Ok, Err}
 use Rattle.std.specs.Str.{bytes_eq}
 use Rattle.um_frac.specs.declared.number.Frac.{Frac}
-use Rattle.um_frac.specs.Fraction.{numerator}
 use Rattle.um_units.specs.PowerMap.{one}
 use Rattle.um_tree.specs.declared.note.UnitNote.TheVariants as note
 use Rattle.um_tree.specs.ExprTree.{ExprTree, ExprTrees, truth, number, local, call, negate, not_expr, pown, arith}
@@ -18,10 +17,11 @@ use Rattle.um_tree.specs.RawTree.{truth_syntax, number_syntax, name_syntax, call
 use Rattle.um_tree.specs.RawTree.{pown_syntax, arith_syntax, compare_syntax, and_syntax, or_syntax, if_syntax}
 use Rattle.um_tree.specs.RawTree.{let_syntax, match_syntax, nil_syntax, list_syntax, cons_syntax, fields_syntax}
 use Rattle.um_tree.specs.RawTree.{field_syntax, bracket_expr_syntax, no_exprs, more_exprs, no_fields, more_fields}
-use Rattle.um_measures.specs.Faults.{unknown, wrong_count, hole, Found, and_then, unless_taken}
+use Rattle.um_measures.specs.Faults.{unknown, wrong_count, Found, and_then, unless_taken}
 use Rattle.um_measures.specs.Scopes.{Scope, local_of, same_binding}
 use Rattle.um_measures.specs.Known.{Known, number_of, names_of_fields, measure_unit}
 use Rattle.um_measures.specs.UnitNames.{resolved_unit}
+use Rattle.um_measures.specs.Wildcards.{open_unit}
 use Rattle.um_names.specs.TypeNames.{resolved_type}
 use Rattle.um_names.specs.declared.callable.Callable.{Callable}
 use Rattle.um_names.specs.declared.callable.FieldNumber.{FieldNumber}
@@ -113,15 +113,11 @@ abbrev pub found_field : Option FieldNumber → ℕ → Found FieldNumber
 found_field None place = Err (unknown place)
 found_field (Some f) place = Ok f
 
-abbrev pub is_zero : ℤ → Bool
-is_zero (pos n) = n == 0
-is_zero (negsuc n) = false
-
--- a hole stands on 0 alone; a written unit is closed
+-- the wildcard stands on 0 alone; a written unit is closed
 abbrev pub resolved_literal : Known → ℕ → Frac → Option NoteSyntax → Found ExprTree
 resolved_literal known at c None = Ok (number at c (note.Written one))
 resolved_literal known at c (Some (hole_syntax place)) =
-    cond (is_zero (numerator c)) (Ok (number at c note.Hole)) (Err (hole at))
+    and_then (open_unit c at) (λ unit. Ok (number at c unit))
 resolved_literal known at c (Some (unit_note_syntax place u)) =
     and_then (resolved_unit (measure_unit known) [] u) (λ v. Ok (number at c (note.Written v)))
 

@@ -14,6 +14,7 @@ use crate::callable::Callable;
 use crate::expr::expr;
 use crate::fields::field_decls;
 use crate::known::Tables;
+use crate::lookup::Lookup;
 use crate::node::Body;
 use crate::parts::{result_note, unit_parameters};
 use crate::records::add_record;
@@ -92,7 +93,12 @@ fn function(alloc: Global, tables: &Tables, raw: &RawFunction) -> Result<Functio
     let own = itself(alloc, raw)?;
     let name = copied(alloc, &raw.name)?;
     let known = Body { variables, own };
-    let body = expr(alloc, tables, &known, &mut scope, &raw.body)?;
+    let lookup = Lookup {
+        alloc,
+        tables,
+        body: &known,
+    };
+    let body = expr(&lookup, &mut scope, &raw.body)?;
     Ok(Function {
         name,
         at: raw.at,

@@ -7,104 +7,99 @@ ghost use Rattle.um_tree.specs.RawTree.{call_syntax, arith_syntax, compare_synta
 ghost use Rattle.um_tree.specs.RawTree.{if_syntax, let_syntax, match_syntax, fields_syntax, field_syntax};
 ghost use Rattle.um_names.specs.Bodies.{resolved_in, resolved_all_in, resolved_parts_in, resolved_arm, found_both};
 ghost use Rattle.um_measures.specs.Stops.{IsFirst};
-ghost use Rattle.um_names.specs.Tables.{AreTables};
 
-use crate::known::Tables;
+use crate::lookup::{Arm, Lookup};
 use crate::node::{
-    Body, accessed, arity, called, distinct, empty_list, literal, located, name_alone, record_of,
+    accessed, arity, called, distinct, empty_list, literal, located, name_alone, record_of,
 };
-use std::alloc::Global;
 use std::boxed::Box;
 use um_measures::{NameStop, Scope};
 use um_tree::{Arith, Binder, Expr, Exprs, Name, Node, RawExpr, RawField, RawNode, Sign};
 
 /// The expression of a text, in a scope.
 #[cycle(expr)]
-pub fn expr(
-    alloc: Global,
-    tables: &Tables,
-    body: &Body,
-    scope: &mut Scope,
-    e: &RawExpr,
-) -> Result<Expr, NameStop>
-    requires { AreTables tables.now }
+pub fn expr(lookup: &Lookup, scope: &mut Scope, e: &RawExpr) -> Result<Expr, NameStop>
     ensures exact { IfOk result (λ r.
-        resolved_in tables.now body.now scope.old (expr_syntax e.now) ≡ Ok (expr_tree r)) }
-    ensures faults { IfErr result (IsFirst (resolved_in tables.now body.now scope.old (expr_syntax e.now))) }
+        resolved_in lookup.now.tables.now lookup.now.body.now scope.old (expr_syntax e.now) ≡ Ok (expr_tree r)) }
+    ensures faults { IfErr result (IsFirst (resolved_in lookup.now.tables.now lookup.now.body.now scope.old
+        (expr_syntax e.now))) }
     ensures scope { OnOk result (scope.new ≡ scope.old) }
 {
     let at = e.at;
     match &e.node {
         RawNode::Bool(b) => located(at, Node::Bool(*b)),
-        RawNode::Num(number, note) => literal(alloc, tables, at, *number, note),
-        RawNode::Name(name) => name_alone(alloc, tables, body, scope, at, name),
-        RawNode::Call(name, items) => call_expr(alloc, tables, body, scope, at, name, &items.items),
-        RawNode::Neg(a) => located(at, Node::Neg(boxed(alloc, tables, body, scope, a)?)),
-        RawNode::Not(a) => located(at, Node::Not(boxed(alloc, tables, body, scope, a)?)),
-        RawNode::Pow(a, k) => located(at, Node::Pow(boxed(alloc, tables, body, scope, a)?, *k)),
-        RawNode::Arith(op, a, b) => arith_expr(alloc, tables, body, scope, at, *op, a, b),
-        RawNode::Compare(sign, a, b) => compare_expr(alloc, tables, body, scope, at, *sign, a, b),
-        RawNode::And(a, b) => and_expr(alloc, tables, body, scope, at, a, b),
-        RawNode::Or(a, b) => or_expr(alloc, tables, body, scope, at, a, b),
-        RawNode::If(c, a, b) => if_expr(alloc, tables, body, scope, at, c, a, b),
-        RawNode::Let(x, a, b) => let_expr(alloc, tables, body, scope, at, x, a, b),
+        RawNode::Num(number, note) => literal(lookup.alloc, lookup.tables, at, *number, note),
+        RawNode::Name(name) => name_alone(
+            lookup.alloc,
+            lookup.tables,
+            lookup.body,
+            scope,
+            at,
+            name,
+        ),
+        RawNode::Call(name, items) => call_expr(lookup, scope, at, name, &items.items),
+        RawNode::Neg(a) => located(at, Node::Neg(boxed(lookup, scope, a)?)),
+        RawNode::Not(a) => located(at, Node::Not(boxed(lookup, scope, a)?)),
+        RawNode::Pow(a, k) => located(at, Node::Pow(boxed(lookup, scope, a)?, *k)),
+        RawNode::Arith(op, a, b) => arith_expr(lookup, scope, at, *op, a, b),
+        RawNode::Compare(sign, a, b) => compare_expr(lookup, scope, at, *sign, a, b),
+        RawNode::And(a, b) => and_expr(lookup, scope, at, a, b),
+        RawNode::Or(a, b) => or_expr(lookup, scope, at, a, b),
+        RawNode::If(c, a, b) => if_expr(lookup, scope, at, c, a, b),
+        RawNode::Let(x, a, b) => let_expr(lookup, scope, at, x, a, b),
         RawNode::Match(l, a, x, y, b) => {
-            match_expr(alloc, tables, body, scope, at, l, a, x, y, b)
+            let arm = Arm {
+                head: x,
+                tail: y,
+                part: b,
+            };
+            match_expr(lookup, scope, at, l, a, &arm)
         }
-        RawNode::Nil(ty) => empty_list(alloc, tables, body, at, ty),
+        RawNode::Nil(ty) => empty_list(lookup.alloc, lookup.tables, lookup.body, at, ty),
         RawNode::List(items) => {
-            let items = exprs(alloc, tables, body, scope, &items.items)?;
+            let items = exprs(lookup, scope, &items.items)?;
             located(at, Node::List(Exprs { items }))
         }
-        RawNode::Cons(a, b) => cons_expr(alloc, tables, body, scope, at, a, b),
-        RawNode::Rec(fields) => record_expr(alloc, tables, body, scope, at, &fields.items),
-        RawNode::Field(place, name, a) => {
-            field_expr(alloc, tables, body, scope, at, *place, name, a)
-        }
-        RawNode::Bracket(a) => expr(alloc, tables, body, scope, a),
+        RawNode::Cons(a, b) => cons_expr(lookup, scope, at, a, b),
+        RawNode::Rec(fields) => record_expr(lookup, scope, at, &fields.items),
+        RawNode::Field(place, name, a) => field_expr(lookup, scope, at, *place, name, a),
+        RawNode::Bracket(a) => expr(lookup, scope, a),
     }
 }
 
 #[cycle(expr)]
-fn boxed(
-    alloc: Global,
-    tables: &Tables,
-    body: &Body,
-    scope: &mut Scope,
-    e: &RawExpr,
-) -> Result<Box<Expr>, NameStop>
-    requires { AreTables tables.now }
-    ensures exact { IfOk result (λ r.
-        resolved_in tables.now body.now scope.old (expr_syntax e.now) ≡ Ok (expr_tree r.value)) }
-    ensures faults { IfErr result (IsFirst (resolved_in tables.now body.now scope.old (expr_syntax e.now))) }
+fn boxed(lookup: &Lookup, scope: &mut Scope, e: &RawExpr) -> Result<Box<Expr>, NameStop>
+    ensures exact { IfOk result (λ r. resolved_in lookup.now.tables.now lookup.now.body.now scope.old
+        (expr_syntax e.now) ≡ Ok (expr_tree r.value)) }
+    ensures faults { IfErr result (IsFirst (resolved_in lookup.now.tables.now lookup.now.body.now scope.old
+        (expr_syntax e.now))) }
     ensures scope { OnOk result (scope.new ≡ scope.old) }
 {
-    let e = expr(alloc, tables, body, scope, e)?;
-    Ok(Box::new(alloc, e)?)
+    let e = expr(lookup, scope, e)?;
+    Ok(Box::new(lookup.alloc, e)?)
 }
 
 /// Two expressions in one scope, the first before the second.
 #[cycle(expr)]
 fn two(
-    alloc: Global,
-    tables: &Tables,
-    body: &Body,
+    lookup: &Lookup,
     scope: &mut Scope,
     a: &RawExpr,
     b: &RawExpr,
 ) -> Result<(Box<Expr>, Box<Expr>), NameStop>
-    requires { AreTables tables.now }
     ensures first { IfOk result (λ parts.
-        resolved_in tables.now body.now scope.old (expr_syntax a.now) ≡ Ok (expr_tree parts.0.value)) }
+        resolved_in lookup.now.tables.now lookup.now.body.now scope.old (expr_syntax a.now)
+        ≡ Ok (expr_tree parts.0.value)) }
     ensures second { IfOk result (λ parts.
-        resolved_in tables.now body.now scope.old (expr_syntax b.now) ≡ Ok (expr_tree parts.1.value)) }
+        resolved_in lookup.now.tables.now lookup.now.body.now scope.old (expr_syntax b.now)
+        ≡ Ok (expr_tree parts.1.value)) }
     ensures faults { IfErr result (IsFirst
-        (found_both (resolved_in tables.now body.now scope.old (expr_syntax a.now))
-        (resolved_in tables.now body.now scope.old (expr_syntax b.now)))) }
+        (found_both (resolved_in lookup.now.tables.now lookup.now.body.now scope.old (expr_syntax a.now))
+        (resolved_in lookup.now.tables.now lookup.now.body.now scope.old (expr_syntax b.now)))) }
     ensures scope { OnOk result (scope.new ≡ scope.old) }
 {
-    let first = boxed(alloc, tables, body, scope, a)?;
-    match boxed(alloc, tables, body, scope, b) {
+    let first = boxed(lookup, scope, a)?;
+    match boxed(lookup, scope, b) {
         Ok(second) => Ok((first, second)),
         Err(stop) => {
             drop(first);
@@ -116,158 +111,139 @@ fn two(
 /// A call: the function and the count come before the arguments.
 #[cycle(expr)]
 fn call_expr(
-    alloc: Global,
-    tables: &Tables,
-    body: &Body,
+    lookup: &Lookup,
     scope: &mut Scope,
     at: u32,
     name: &Name,
     items: &[RawExpr],
 ) -> Result<Expr, NameStop>
-    requires { AreTables tables.now }
     ensures exact { IfOk result (λ r.
-        resolved_in tables.now body.now scope.old (call_syntax at name.now (exprs_in_order (map expr_syntax items.now)))
+        resolved_in lookup.now.tables.now lookup.now.body.now scope.old
+        (call_syntax at name.now (exprs_in_order (map expr_syntax items.now)))
         ≡ Ok (expr_tree r)) }
     ensures faults { IfErr result (IsFirst
-        (resolved_in tables.now body.now scope.old (call_syntax at name.now (exprs_in_order (map expr_syntax items.now))))) }
+        (resolved_in lookup.now.tables.now lookup.now.body.now scope.old
+        (call_syntax at name.now (exprs_in_order (map expr_syntax items.now))))) }
     ensures scope { OnOk result (scope.new ≡ scope.old) }
 {
-    let function = called(tables, body, scope, at, name, arity(items))?;
-    let items = exprs(alloc, tables, body, scope, items)?;
+    let function = called(lookup.tables, lookup.body, scope, at, name, arity(items))?;
+    let items = exprs(lookup, scope, items)?;
     located(at, Node::Call(function, Exprs { items }))
 }
 
 /// A sum, a difference, a product or a quotient.
 #[cycle(expr)]
 fn arith_expr(
-    alloc: Global,
-    tables: &Tables,
-    body: &Body,
+    lookup: &Lookup,
     scope: &mut Scope,
     at: u32,
     op: Arith,
     a: &RawExpr,
     b: &RawExpr,
 ) -> Result<Expr, NameStop>
-    requires { AreTables tables.now }
-    ensures exact { IfOk result (λ r. resolved_in tables.now body.now scope.old
+    ensures exact { IfOk result (λ r. resolved_in lookup.now.tables.now lookup.now.body.now scope.old
         (arith_syntax at op (expr_syntax a.now) (expr_syntax b.now)) ≡ Ok (expr_tree r)) }
-    ensures faults { IfErr result (IsFirst (resolved_in tables.now body.now scope.old
+    ensures faults { IfErr result (IsFirst (resolved_in lookup.now.tables.now lookup.now.body.now scope.old
         (arith_syntax at op (expr_syntax a.now) (expr_syntax b.now)))) }
     ensures scope { OnOk result (scope.new ≡ scope.old) }
 {
-    let (left, right) = two(alloc, tables, body, scope, a, b)?;
+    let (left, right) = two(lookup, scope, a, b)?;
     located(at, Node::Arith(op, left, right))
 }
 
 /// A comparison.
 #[cycle(expr)]
 fn compare_expr(
-    alloc: Global,
-    tables: &Tables,
-    body: &Body,
+    lookup: &Lookup,
     scope: &mut Scope,
     at: u32,
     sign: Sign,
     a: &RawExpr,
     b: &RawExpr,
 ) -> Result<Expr, NameStop>
-    requires { AreTables tables.now }
-    ensures exact { IfOk result (λ r. resolved_in tables.now body.now scope.old
+    ensures exact { IfOk result (λ r. resolved_in lookup.now.tables.now lookup.now.body.now scope.old
         (compare_syntax at sign (expr_syntax a.now) (expr_syntax b.now)) ≡ Ok (expr_tree r)) }
-    ensures faults { IfErr result (IsFirst (resolved_in tables.now body.now scope.old
+    ensures faults { IfErr result (IsFirst (resolved_in lookup.now.tables.now lookup.now.body.now scope.old
         (compare_syntax at sign (expr_syntax a.now) (expr_syntax b.now)))) }
     ensures scope { OnOk result (scope.new ≡ scope.old) }
 {
-    let (left, right) = two(alloc, tables, body, scope, a, b)?;
+    let (left, right) = two(lookup, scope, a, b)?;
     located(at, Node::Compare(sign, left, right))
 }
 
 #[cycle(expr)]
 fn and_expr(
-    alloc: Global,
-    tables: &Tables,
-    body: &Body,
+    lookup: &Lookup,
     scope: &mut Scope,
     at: u32,
     a: &RawExpr,
     b: &RawExpr,
 ) -> Result<Expr, NameStop>
-    requires { AreTables tables.now }
-    ensures exact { IfOk result (λ r. resolved_in tables.now body.now scope.old
+    ensures exact { IfOk result (λ r. resolved_in lookup.now.tables.now lookup.now.body.now scope.old
         (and_syntax at (expr_syntax a.now) (expr_syntax b.now)) ≡ Ok (expr_tree r)) }
-    ensures faults { IfErr result (IsFirst (resolved_in tables.now body.now scope.old
+    ensures faults { IfErr result (IsFirst (resolved_in lookup.now.tables.now lookup.now.body.now scope.old
         (and_syntax at (expr_syntax a.now) (expr_syntax b.now)))) }
     ensures scope { OnOk result (scope.new ≡ scope.old) }
 {
-    let (left, right) = two(alloc, tables, body, scope, a, b)?;
+    let (left, right) = two(lookup, scope, a, b)?;
     located(at, Node::And(left, right))
 }
 
 #[cycle(expr)]
 fn or_expr(
-    alloc: Global,
-    tables: &Tables,
-    body: &Body,
+    lookup: &Lookup,
     scope: &mut Scope,
     at: u32,
     a: &RawExpr,
     b: &RawExpr,
 ) -> Result<Expr, NameStop>
-    requires { AreTables tables.now }
-    ensures exact { IfOk result (λ r. resolved_in tables.now body.now scope.old
+    ensures exact { IfOk result (λ r. resolved_in lookup.now.tables.now lookup.now.body.now scope.old
         (or_syntax at (expr_syntax a.now) (expr_syntax b.now)) ≡ Ok (expr_tree r)) }
-    ensures faults { IfErr result (IsFirst (resolved_in tables.now body.now scope.old
+    ensures faults { IfErr result (IsFirst (resolved_in lookup.now.tables.now lookup.now.body.now scope.old
         (or_syntax at (expr_syntax a.now) (expr_syntax b.now)))) }
     ensures scope { OnOk result (scope.new ≡ scope.old) }
 {
-    let (left, right) = two(alloc, tables, body, scope, a, b)?;
+    let (left, right) = two(lookup, scope, a, b)?;
     located(at, Node::Or(left, right))
 }
 
 /// A head in front of a tail.
 #[cycle(expr)]
 fn cons_expr(
-    alloc: Global,
-    tables: &Tables,
-    body: &Body,
+    lookup: &Lookup,
     scope: &mut Scope,
     at: u32,
     a: &RawExpr,
     b: &RawExpr,
 ) -> Result<Expr, NameStop>
-    requires { AreTables tables.now }
-    ensures exact { IfOk result (λ r. resolved_in tables.now body.now scope.old
+    ensures exact { IfOk result (λ r. resolved_in lookup.now.tables.now lookup.now.body.now scope.old
         (cons_syntax at (expr_syntax a.now) (expr_syntax b.now)) ≡ Ok (expr_tree r)) }
-    ensures faults { IfErr result (IsFirst (resolved_in tables.now body.now scope.old
+    ensures faults { IfErr result (IsFirst (resolved_in lookup.now.tables.now lookup.now.body.now scope.old
         (cons_syntax at (expr_syntax a.now) (expr_syntax b.now)))) }
     ensures scope { OnOk result (scope.new ≡ scope.old) }
 {
-    let (head, tail) = two(alloc, tables, body, scope, a, b)?;
+    let (head, tail) = two(lookup, scope, a, b)?;
     located(at, Node::Cons(head, tail))
 }
 
 /// A condition and its arms.
 #[cycle(expr)]
 fn if_expr(
-    alloc: Global,
-    tables: &Tables,
-    body: &Body,
+    lookup: &Lookup,
     scope: &mut Scope,
     at: u32,
     c: &RawExpr,
     a: &RawExpr,
     b: &RawExpr,
 ) -> Result<Expr, NameStop>
-    requires { AreTables tables.now }
-    ensures exact { IfOk result (λ r. resolved_in tables.now body.now scope.old
+    ensures exact { IfOk result (λ r. resolved_in lookup.now.tables.now lookup.now.body.now scope.old
         (if_syntax at (expr_syntax c.now) (expr_syntax a.now) (expr_syntax b.now)) ≡ Ok (expr_tree r)) }
-    ensures faults { IfErr result (IsFirst (resolved_in tables.now body.now scope.old
+    ensures faults { IfErr result (IsFirst (resolved_in lookup.now.tables.now lookup.now.body.now scope.old
         (if_syntax at (expr_syntax c.now) (expr_syntax a.now) (expr_syntax b.now)))) }
     ensures scope { OnOk result (scope.new ≡ scope.old) }
 {
-    let condition = boxed(alloc, tables, body, scope, c)?;
-    match two(alloc, tables, body, scope, a, b) {
+    let condition = boxed(lookup, scope, c)?;
+    match two(lookup, scope, a, b) {
         Ok((yes, no)) => located(at, Node::If(condition, yes, no)),
         Err(stop) => {
             drop(condition);
@@ -279,23 +255,20 @@ fn if_expr(
 /// What follows a `let`, with one more variable in scope.
 #[cycle(expr)]
 fn rest_expr(
-    alloc: Global,
-    tables: &Tables,
-    body: &Body,
+    lookup: &Lookup,
     scope: &mut Scope,
     x: &Binder,
     b: &RawExpr,
 ) -> Result<Box<Expr>, NameStop>
-    requires { AreTables tables.now }
-    ensures exact { IfOk result (λ r. resolved_in tables.now body.now
+    ensures exact { IfOk result (λ r. resolved_in lookup.now.tables.now lookup.now.body.now
         (scope.old ++ (binder_syntax x.now).name ∷ []) (expr_syntax b.now) ≡ Ok (expr_tree r.value)) }
-    ensures faults { IfErr result (IsFirst (resolved_in tables.now body.now
+    ensures faults { IfErr result (IsFirst (resolved_in lookup.now.tables.now lookup.now.body.now
         (scope.old ++ (binder_syntax x.now).name ∷ []) (expr_syntax b.now))) }
     ensures scope { OnOk result (scope.new ≡ scope.old) }
 {
     let count = scope.count();
-    scope.push(alloc, x)?;
-    let rest = boxed(alloc, tables, body, scope, b)?;
+    scope.push(lookup.alloc, x)?;
+    let rest = boxed(lookup, scope, b)?;
     scope.cut(count);
     Ok(rest)
 }
@@ -303,24 +276,21 @@ fn rest_expr(
 /// The second part has one more variable.
 #[cycle(expr)]
 fn let_expr(
-    alloc: Global,
-    tables: &Tables,
-    body: &Body,
+    lookup: &Lookup,
     scope: &mut Scope,
     at: u32,
     x: &Binder,
     a: &RawExpr,
     b: &RawExpr,
 ) -> Result<Expr, NameStop>
-    requires { AreTables tables.now }
-    ensures exact { IfOk result (λ r. resolved_in tables.now body.now scope.old
+    ensures exact { IfOk result (λ r. resolved_in lookup.now.tables.now lookup.now.body.now scope.old
         (let_syntax at (binder_syntax x.now) (expr_syntax a.now) (expr_syntax b.now)) ≡ Ok (expr_tree r)) }
-    ensures faults { IfErr result (IsFirst (resolved_in tables.now body.now scope.old
+    ensures faults { IfErr result (IsFirst (resolved_in lookup.now.tables.now lookup.now.body.now scope.old
         (let_syntax at (binder_syntax x.now) (expr_syntax a.now) (expr_syntax b.now)))) }
     ensures scope { OnOk result (scope.new ≡ scope.old) }
 {
-    let value = boxed(alloc, tables, body, scope, a)?;
-    match rest_expr(alloc, tables, body, scope, x, b) {
+    let value = boxed(lookup, scope, a)?;
+    match rest_expr(lookup, scope, x, b) {
         Ok(rest) => located(at, Node::Let(value, rest)),
         Err(stop) => {
             drop(value);
@@ -331,27 +301,19 @@ fn let_expr(
 
 /// The arm of a list with a head: its two variables have two names, and are in scope.
 #[cycle(expr)]
-fn full_arm(
-    alloc: Global,
-    tables: &Tables,
-    body: &Body,
-    scope: &mut Scope,
-    x: &Binder,
-    y: &Binder,
-    b: &RawExpr,
-) -> Result<Box<Expr>, NameStop>
-    requires { AreTables tables.now }
-    ensures exact { IfOk result (λ r. resolved_arm tables.now body.now scope.old
-        (binder_syntax x.now) (binder_syntax y.now) (expr_syntax b.now) ≡ Ok (expr_tree r.value)) }
-    ensures faults { IfErr result (IsFirst (resolved_arm tables.now body.now scope.old
-        (binder_syntax x.now) (binder_syntax y.now) (expr_syntax b.now))) }
+fn full_arm(lookup: &Lookup, scope: &mut Scope, arm: &Arm) -> Result<Box<Expr>, NameStop>
+    ensures exact { IfOk result (λ r. resolved_arm lookup.now.tables.now lookup.now.body.now scope.old
+        (binder_syntax arm.now.head.now) (binder_syntax arm.now.tail.now) (expr_syntax arm.now.part.now)
+        ≡ Ok (expr_tree r.value)) }
+    ensures faults { IfErr result (IsFirst (resolved_arm lookup.now.tables.now lookup.now.body.now scope.old
+        (binder_syntax arm.now.head.now) (binder_syntax arm.now.tail.now) (expr_syntax arm.now.part.now))) }
     ensures scope { OnOk result (scope.new ≡ scope.old) }
 {
-    distinct(x, y)?;
+    distinct(arm.head, arm.tail)?;
     let count = scope.count();
-    scope.push(alloc, x)?;
-    scope.push(alloc, y)?;
-    let full = boxed(alloc, tables, body, scope, b)?;
+    scope.push(lookup.alloc, arm.head)?;
+    scope.push(lookup.alloc, arm.tail)?;
+    let full = boxed(lookup, scope, arm.part)?;
     scope.cut(count);
     Ok(full)
 }
@@ -359,27 +321,24 @@ fn full_arm(
 /// The last part has two more variables, head and tail.
 #[cycle(expr)]
 fn match_expr(
-    alloc: Global,
-    tables: &Tables,
-    body: &Body,
+    lookup: &Lookup,
     scope: &mut Scope,
     at: u32,
     l: &RawExpr,
     a: &RawExpr,
-    x: &Binder,
-    y: &Binder,
-    b: &RawExpr,
+    arm: &Arm,
 ) -> Result<Expr, NameStop>
-    requires { AreTables tables.now }
-    ensures exact { IfOk result (λ r. resolved_in tables.now body.now scope.old
-        (match_syntax at (expr_syntax l.now) (expr_syntax a.now) (binder_syntax x.now) (binder_syntax y.now)
-        (expr_syntax b.now)) ≡ Ok (expr_tree r)) }
-    ensures faults { IfErr result (IsFirst (resolved_in tables.now body.now scope.old
-        (match_syntax at (expr_syntax l.now) (expr_syntax a.now) (binder_syntax x.now) (binder_syntax y.now) (expr_syntax b.now)))) }
+    ensures exact { IfOk result (λ r. resolved_in lookup.now.tables.now lookup.now.body.now scope.old
+        (match_syntax at (expr_syntax l.now) (expr_syntax a.now) (binder_syntax arm.now.head.now)
+        (binder_syntax arm.now.tail.now)
+        (expr_syntax arm.now.part.now)) ≡ Ok (expr_tree r)) }
+    ensures faults { IfErr result (IsFirst (resolved_in lookup.now.tables.now lookup.now.body.now scope.old
+        (match_syntax at (expr_syntax l.now) (expr_syntax a.now) (binder_syntax arm.now.head.now)
+        (binder_syntax arm.now.tail.now) (expr_syntax arm.now.part.now)))) }
     ensures scope { OnOk result (scope.new ≡ scope.old) }
 {
-    let (list, empty) = two(alloc, tables, body, scope, l, a)?;
-    match full_arm(alloc, tables, body, scope, x, y, b) {
+    let (list, empty) = two(lookup, scope, l, a)?;
+    match full_arm(lookup, scope, arm) {
         Ok(full) => located(at, Node::Match(list, empty, full)),
         Err(stop) => {
             drop(list);
@@ -390,110 +349,93 @@ fn match_expr(
 }
 
 #[cycle(expr)]
-fn exprs(
-    alloc: Global,
-    tables: &Tables,
-    body: &Body,
-    scope: &mut Scope,
-    items: &[RawExpr],
-) -> Result<Vec<Expr>, NameStop>
-    requires { AreTables tables.now }
-    ensures exact { IfOk result (λ es. resolved_all_in tables.now body.now scope.old
+fn exprs(lookup: &Lookup, scope: &mut Scope, items: &[RawExpr]) -> Result<Vec<Expr>, NameStop>
+    ensures exact { IfOk result (λ es. resolved_all_in lookup.now.tables.now lookup.now.body.now scope.old
         (exprs_in_order (map expr_syntax items.now)) ≡ Ok (in_order (map expr_tree es.items))) }
-    ensures faults { IfErr result (IsFirst (resolved_all_in tables.now body.now scope.old
+    ensures faults { IfErr result (IsFirst (resolved_all_in lookup.now.tables.now lookup.now.body.now scope.old
         (exprs_in_order (map expr_syntax items.now)))) }
     ensures scope { OnOk result (scope.new ≡ scope.old) }
 {
-    let mut es = Vec::new(alloc);
+    let mut es = Vec::new(lookup.alloc);
     for i in 0..items.len() {
-        es.push(expr(alloc, tables, body, scope, &items[i])?)?;
+        es.push(expr(lookup, scope, &items[i])?)?;
     }
     Ok(es)
 }
 
 #[cycle(expr)]
 fn field_values(
-    alloc: Global,
-    tables: &Tables,
-    body: &Body,
+    lookup: &Lookup,
     scope: &mut Scope,
     fields: &[RawField],
 ) -> Result<Vec<Expr>, NameStop>
-    requires { AreTables tables.now }
-    ensures exact { IfOk result (λ es. resolved_parts_in tables.now body.now scope.old
+    ensures exact { IfOk result (λ es. resolved_parts_in lookup.now.tables.now lookup.now.body.now scope.old
         (fields_in_order (map field_part fields.now)) ≡ Ok (in_order (map expr_tree es.items))) }
-    ensures faults { IfErr result (IsFirst (resolved_parts_in tables.now body.now scope.old
+    ensures faults { IfErr result (IsFirst (resolved_parts_in lookup.now.tables.now lookup.now.body.now scope.old
         (fields_in_order (map field_part fields.now)))) }
     ensures scope { OnOk result (scope.new ≡ scope.old) }
 {
-    let mut es = Vec::new(alloc);
+    let mut es = Vec::new(lookup.alloc);
     for i in 0..fields.len() {
-        es.push(field_value(alloc, tables, body, scope, &fields[i])?)?;
+        es.push(field_value(lookup, scope, &fields[i])?)?;
     }
     Ok(es)
 }
 
 #[cycle(expr)]
-fn field_value(
-    alloc: Global,
-    tables: &Tables,
-    body: &Body,
-    scope: &mut Scope,
-    field: &RawField,
-) -> Result<Expr, NameStop>
-    requires { AreTables tables.now }
-    ensures exact { IfOk result (λ r. resolved_in tables.now body.now scope.old (field_part field.now).part
+fn field_value(lookup: &Lookup, scope: &mut Scope, field: &RawField) -> Result<Expr, NameStop>
+    ensures exact { IfOk result (λ r. resolved_in lookup.now.tables.now lookup.now.body.now scope.old
+        (field_part field.now).part
         ≡ Ok (expr_tree r)) }
-    ensures faults { IfErr result (IsFirst (resolved_in tables.now body.now scope.old (field_part field.now).part)) }
+    ensures faults { IfErr result (IsFirst (resolved_in lookup.now.tables.now lookup.now.body.now scope.old
+        (field_part field.now).part)) }
     ensures scope { OnOk result (scope.new ≡ scope.old) }
 {
-    expr(alloc, tables, body, scope, &field.value)
+    expr(lookup, scope, &field.value)
 }
 
 #[cycle(expr)]
 fn record_expr(
-    alloc: Global,
-    tables: &Tables,
-    body: &Body,
+    lookup: &Lookup,
     scope: &mut Scope,
     at: u32,
     fields: &[RawField],
 ) -> Result<Expr, NameStop>
-    requires { AreTables tables.now }
     ensures exact { IfOk result (λ r.
-        resolved_in tables.now body.now scope.old (fields_syntax at (fields_in_order (map field_part fields.now)))
+        resolved_in lookup.now.tables.now lookup.now.body.now scope.old
+        (fields_syntax at (fields_in_order (map field_part fields.now)))
         ≡ Ok (expr_tree r)) }
     ensures faults { IfErr result (IsFirst
-        (resolved_in tables.now body.now scope.old (fields_syntax at (fields_in_order (map field_part fields.now))))) }
+        (resolved_in lookup.now.tables.now lookup.now.body.now scope.old
+        (fields_syntax at (fields_in_order (map field_part fields.now))))) }
     ensures scope { OnOk result (scope.new ≡ scope.old) }
 {
-    let record = record_of(tables, fields, at)?;
-    let items = field_values(alloc, tables, body, scope, fields)?;
+    let record = record_of(lookup.tables, fields, at)?;
+    let items = field_values(lookup, scope, fields)?;
     located(at, Node::Rec(record, Exprs { items }))
 }
 
 #[cycle(expr)]
 fn field_expr(
-    alloc: Global,
-    tables: &Tables,
-    body: &Body,
+    lookup: &Lookup,
     scope: &mut Scope,
     at: u32,
     place: u32,
     name: &Name,
     a: &RawExpr,
 ) -> Result<Expr, NameStop>
-    requires { AreTables tables.now }
     ensures exact { IfOk result (λ r.
-        resolved_in tables.now body.now scope.old (field_syntax at place name.now (expr_syntax a.now))
+        resolved_in lookup.now.tables.now lookup.now.body.now scope.old
+        (field_syntax at place name.now (expr_syntax a.now))
         ≡ Ok (expr_tree r)) }
     ensures faults { IfErr result (IsFirst
-        (resolved_in tables.now body.now scope.old (field_syntax at place name.now (expr_syntax a.now)))) }
+        (resolved_in lookup.now.tables.now lookup.now.body.now scope.old
+        (field_syntax at place name.now (expr_syntax a.now)))) }
     ensures scope { OnOk result (scope.new ≡ scope.old) }
 {
-    let value = expr(alloc, tables, body, scope, a)?;
-    let field = accessed(tables, name, place)?;
-    let value = Box::new(alloc, value)?;
+    let value = expr(lookup, scope, a)?;
+    let field = accessed(lookup.tables, name, place)?;
+    let value = Box::new(lookup.alloc, value)?;
     located(
         at,
         Node::Field(field.record_number, field.field_number, value),

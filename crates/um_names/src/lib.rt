@@ -1,8 +1,9 @@
 //! Names: the program of a raw tree, with each name that it uses found where it is declared.
 //!
 //! ```
-//! let program = resolve(alloc, &raw)?; // or the first name that is unknown, repeated or miscounted
-//! let shorts = abbreviations(alloc, &raw, &program)?; // each with its closed unit
+//! let all = resolve_all(alloc, &raw)?; // or the first name that is unknown, repeated or miscounted
+//! let program = all.program;
+//! let shorts = all.abbreviations; // each with its closed unit
 //! ```
 #![tactic(auto)]
 
@@ -14,6 +15,7 @@ mod fields;
 mod heads;
 mod known;
 mod laws;
+mod lookup;
 mod node;
 mod parts;
 mod records;
@@ -23,6 +25,6 @@ mod signatures;
 mod types;
 
 pub use laws::records_by_their_fields;
-pub use resolving::{abbreviations, resolve};
+pub use resolving::{Resolved, abbreviations, resolve, resolve_all};
 pub use signatures::types_of;
 pub use um_measures::{Abbreviation, Abbreviations, NameStop, closed_unit};

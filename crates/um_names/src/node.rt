@@ -15,7 +15,7 @@ use crate::known::Tables;
 use crate::types::note;
 use std::alloc::Global;
 use um_frac::Frac;
-use um_measures::{NameStop, NameTable, Scope, same_binding};
+use um_measures::{NameStop, NameTable, Scope, open_unit, same_binding};
 use um_tree::{Binder, Expr, Exprs, Name, Node, RawExpr, RawField, RawNote, RawType, UnitNote};
 use um_units::Unit;
 
@@ -27,7 +27,7 @@ pub struct Body {
     pub own: Option<Callable>,
 }
 
-/// A number with its unit: a hole stands on 0 alone, and a written unit is closed.
+/// A number with its unit: the wildcard stands on 0 alone, and a written unit is closed.
 pub(crate) fn literal(
     alloc: Global,
     tables: &Tables,
@@ -42,8 +42,7 @@ pub(crate) fn literal(
 {
     let unit = match note {
         None => UnitNote::Written(Unit::one(alloc)),
-        Some(RawNote::Hole(_)) if number.num() == 0 => UnitNote::Hole,
-        Some(RawNote::Hole(_)) => return Err(NameStop::Hole { at }),
+        Some(RawNote::Hole(_)) => open_unit(number, at)?,
         Some(RawNote::Unit(_, unit)) => {
             UnitNote::Written(tables.unit(alloc, &NameTable::new(alloc), unit)?)
         }

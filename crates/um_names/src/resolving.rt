@@ -44,6 +44,39 @@ fn declarations(alloc: Global, raw: &[RawDecl]) -> Result<Tables, NameStop>
     }
 }
 
+/// The program of a raw tree, with its abbreviations.
+#[derive(Drop)]
+pub struct Resolved {
+    pub program: Program,
+    /// In order of declaration, each with its closed unit.
+    pub abbreviations: Abbreviations,
+}
+
+/// The program of a raw tree, each of whose names is known where it stands, and its abbreviations.
+///
+/// It takes time linear in the text, and refuses what [`resolve`] refuses.
+pub fn resolve_all(alloc: Global, raw: &RawProgram) -> Result<Resolved, NameStop>
+    ensures exact { IfOk result (λ all. resolved_program (program_syntax raw.now) ≡ Ok (program_tree all.program)) }
+    ensures formed { IfOk result (λ all. IsReadable (program_syntax raw.now) → IsFormed (program_tree all.program)) }
+    ensures abbreviated { IfOk result (λ all. resolved_abbreviations (program_syntax raw.now)
+        ≡ Ok all.abbreviations) }
+    ensures faults { IfErr result (IsFirst (resolved_program (program_syntax raw.now))) }
+{
+    let tables = declarations(alloc, &raw.items)?;
+    Ok(Resolved {
+        program: Program {
+            bases: Names::from_vec(tables.bases),
+            records: Records {
+                items: tables.records,
+            },
+            functions: Functions {
+                items: tables.functions,
+            },
+        },
+        abbreviations: Abbreviations::from_vec(tables.shorts),
+    })
+}
+
 /// The program of a raw tree, each of whose names is known where it stands.
 ///
 /// A name is known from the end of its declaration on, and a `rec` function in its own body too. Measures,
@@ -57,16 +90,10 @@ pub fn resolve(alloc: Global, raw: &RawProgram) -> Result<Program, NameStop>
     ensures formed { IfOk result (λ program. IsReadable (program_syntax raw.now) → IsFormed (program_tree program)) }
     ensures faults { IfErr result (IsFirst (resolved_program (program_syntax raw.now))) }
 {
-    let tables = declarations(alloc, &raw.items)?;
-    Ok(Program {
-        bases: Names::from_vec(tables.bases),
-        records: Records {
-            items: tables.records,
-        },
-        functions: Functions {
-            items: tables.functions,
-        },
-    })
+    match resolve_all(alloc, raw) {
+        Ok(all) => Ok(all.program),
+        Err(stop) => Err(stop),
+    }
 }
 
 /// The abbreviations of a raw tree with their closed units, in order of declaration.
@@ -82,7 +109,7 @@ pub fn abbreviations(
 {
     match declarations(alloc, &raw.items) {
         Ok(tables) => Ok(Abbreviations::from_vec(tables.shorts)),
-        // the tree has a program, so that memory alone can be wanting
+        // The tree has a program, so memory alone can be wanting.
         Err(_) => Err(AllocError),
     }
 }

@@ -8,9 +8,9 @@ use Rattle.um_syntax.specs.declared.vocabulary.Keyword.{Keyword}
 use Rattle.um_syntax.specs.declared.vocabulary.Keyword.TheVariants as keyword
 use Rattle.um_syntax.specs.declared.vocabulary.Symbol.{Symbol}
 use Rattle.um_syntax.specs.declared.vocabulary.Symbol.TheVariants as symbol
-use Rattle.um_expr.specs.declared.token.ExprToken.{ExprToken}
-use Rattle.um_expr.specs.declared.token.ExprToken.TheVariants.{Name as name}
-use Rattle.um_expr.specs.ExprTokens.{expr_token, keyword_token, symbol_token}
+use Rattle.um_forms.specs.declared.token.ExprToken.{ExprToken}
+use Rattle.um_forms.specs.declared.token.ExprToken.TheVariants.{Name as name}
+use Rattle.um_forms.specs.ExprTokens.{expr_token, keyword_token, symbol_token}
 use Rattle.um_expr.specs.ExprGrammar.{FirstAt}
 use Rattle.um_parse.specs.DeclGrammar.{MoreFieldDecls, FieldDeclsSpell, DeclSpells, DeclsSpell, FieldDeclsFit, DeclFits, DeclsFit}
 use Rattle.um_readable.proofs.NameTokens.{IsNamed, AllNamed}

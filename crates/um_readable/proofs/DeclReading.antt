@@ -5,7 +5,7 @@ use Rattle.um_tree.specs.RawTree.{UnitSyntax, TypeSyntax, VarSyntax, FieldDeclSy
 use Rattle.um_types.specs.TypeGrammar.{TypeFits}
 use Rattle.um_types.specs.UnitGrammar.{Spells as UnitSpells, Fits as UnitFits}
 use Rattle.um_types.proofs.UnitNested.{unit_reaches}
-use Rattle.um_expr.specs.declared.token.ExprToken.{ExprToken}
+use Rattle.um_forms.specs.declared.token.ExprToken.{ExprToken}
 use Rattle.um_expr.specs.ExprGrammar.{First}
 use Rattle.um_parse.specs.DeclGrammar.{Attribute, VarSpells, MoreVars, VarsSpell, FieldDeclSpells, MoreFieldDecls, FieldDeclsSpell, ParamsSpell, ResultSpells, RecSpells, DeclSpells, DeclsSpell, FieldDeclsFit, ParamsFit, ResultFits, DeclFits, DeclsFit}
 use Rattle.um_readable.proofs.Reading.{Leaves, leaves_all, leaves_few, thence, first_leaves, at_leaves, type_leaves, expr_leaves}

@@ -7,7 +7,8 @@ use Rattle.um_tree.specs.RawTree.{TypeSyntax, FieldDeclSyntax, ParamSyntax, Decl
 use Rattle.um_tree.specs.Heights.{greatest_height, expr_height}
 use Rattle.um_types.specs.TypeHeights.{whole_height}
 use Rattle.um_parse.specs.DeclGrammar.{FieldDeclsSpell, DeclSpells, DeclsSpell, ResultFits, DeclFits, DeclsFit}
-use Rattle.um_parse.specs.ProgramHeights.{fields_height, params_height, result_height, decl_height, program_height}
+use Rattle.um_decls.specs.DeclHeights.{fields_height, params_height, result_height}
+use Rattle.um_parse.specs.ProgramHeights.{decl_height, program_height}
 use Rattle.um_operands.specs.ExprHeights.{notes_in, whole_expr_height}
 use Rattle.um_parse.specs.ProgramLimits.{functions_in as functions_among, passed_limit, WithinLimits}
 use Rattle.um_parse.specs.Parsed.{IsRead}

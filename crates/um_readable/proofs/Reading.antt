@@ -5,7 +5,7 @@ use Rattle.um_tree.specs.RawTree.{NoteSyntax, TypeSyntax, ExprSyntax}
 use Rattle.um_types.specs.TypeGrammar.{NoteSpells, NoteFits, TypeSpells, TypeFits}
 use Rattle.um_types.proofs.NoteComplete.{note_reaches}
 use Rattle.um_types.proofs.TypeComplete.{type_reaches}
-use Rattle.um_expr.specs.declared.token.ExprToken.{ExprToken}
+use Rattle.um_forms.specs.declared.token.ExprToken.{ExprToken}
 use Rattle.um_expr.specs.ExprGrammar.{First, FirstAt, FirstGlued, Spells, Fits}
 use Rattle.um_expr.proofs.ExprLaws.{expr_reaches}
 

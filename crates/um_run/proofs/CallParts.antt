@@ -1,12 +1,14 @@
 -- What the parts of `read_call` come to.
-use Rattle.std.proofs.Common.{◌≡◌, ℕ, ◌<◌, List, length, map, Some, slice_get, sym, ap, subst, ◌∙◌, Ok, Err, rules, arith}
-use Rattle.std.specs.Prelude.{IfOk, Result}
+use Rattle.std.proofs.Common.{◌≡◌, ℕ, ◌<◌, All, List, length, map, get_or, Some, slice_get, sym, ap, subst, ◌∙◌, Ok, Err, rules, arith}
+use Rattle.std.specs.Prelude.{◌≢◌, IfOk, Result}
 use Rattle.std.proofs.lemmas.List.{length-map}
+use Rattle.std.proofs.lemmas.List.Elements.{All-map}
 use Rattle.std.proofs.lemmas.Option.{same_Some, slice_get_within}
 use Rattle.um_tree.specs.declared.types.Ty.{Ty}
 use Rattle.um_tree.specs.declared.value.Input.{the_lemmas}
 use Rattle.um_tree.specs.declared.value.Inputs.{Inputs}
-use Rattle.um_tree.specs.TypeTree.{TypeTree, ShapeTree, NoteTree}
+use Rattle.um_tree.specs.declared.types.Shape.{Shape}
+use Rattle.um_tree.specs.TypeTree.{TypeTree, ShapeTree, NoteTree, shape_tree}
 use Rattle.um_tree.specs.ValueTree.{InputTree, InputTrees, input_tree, input_trees, inputs_in_order}
 use Rattle.um_tree.specs.ProgramTree.{RecordTree, FunctionTree, ProgramTree, SchemeTree}
 use Rattle.um_tree.specs.Shapes.{note_shape}
@@ -14,11 +16,9 @@ use Rattle.um_tree.specs.Formed.{IsFormed, IsFormedNote, IsNoteTreeIn}
 use Rattle.um_tree.specs.TypeTree.{bool_note, num_note, list_note, record_note}
 use Rattle.um_tree.proofs.Moved.{All_at, slice_get_moved}
 use Rattle.um_measures.specs.declared.abbreviation.Abbreviation.{Abbreviation}
-use Rattle.um_measures.specs.ClosedUnits.{given}
 use Rattle.um_measures.specs.Known.{number_of, function_names}
 use Rattle.um_measures.proofs.NameLists.{number_of-below}
 use Rattle.um_rows.specs.Judgement.{Judgement}
-use Rattle.um_shape.specs.ShapedProgram.{HasParam, IsParamShape}
 use Rattle.um_value.specs.ValueGrammar.{IsShapeIn}
 use Rattle.um_infer.specs.declared.stop.CallStop.{CallStop}
 use Rattle.um_infer.specs.declared.stop.CallStop.TheVariants as call_stop
@@ -28,8 +28,8 @@ use Rattle.um_infer.proofs.SchemeLists.{item_at}
 use Rattle.um_run.specs.declared.call.Call.{Call}
 use Rattle.um_run.specs.declared.call.CallRefusal.{CallRefusal}
 use Rattle.um_run.specs.declared.call.CallRefusal.TheVariants as refusal
-use Rattle.um_run.specs.Calls.{CallTree, AreInputs, parameter_shapes, IsNamed, IsJudgedCall, IsCallTo, IsCallOf, call_tree, call_answer}
-use Rattle.um_run.specs.Reading.{TakesArguments, AreArgumentsRead, call_refusal}
+use Rattle.um_run.specs.Calls.{CallTree, parameter_shapes, IsNamed, IsJudgedCall, IsCallTo, IsCallOf, call_tree, call_answer}
+use Rattle.um_run.specs.Reading.{call_refusal}
 use Rattle.um_run.specs.Laws.{AreKnown, IsTypedCall}
 use Rattle.um_run.proofs.CallLaws.{calls_are_typed}
 
@@ -52,16 +52,18 @@ parameter_in p formed k f declared i s is =
     parameter_within : (g : FunctionTree) (j : ℕ) (t : ShapeTree) → slice_get (parameter_shapes g) j ≡ Some t → j < length g.params
     parameter_within g j t e = subst (λ (n : ℕ). j < n) (length-map g.params note_shape) (slice_get_within (parameter_shapes g) j t e)
 
-pub param_shape_in : (p : ProgramTree) → IsFormed p → (k i : ℕ) (s : ShapeTree) → HasParam p k i → IsParamShape p k i s → IsShapeIn p.records s
-param_shape_in p formed k i s has is = parameter_in p formed k has.0 has.1 i s (is has.0 has.1)
+-- and so are those that all its parameters' shapes name
+pub params_in : (p : ProgramTree) → IsFormed p → (k : ℕ) (f : FunctionTree) → slice_get p.functions k ≡ Some f → All (IsShapeIn p.records) (parameter_shapes f)
+params_in p formed k f declared =
+    All-map (IsShapeIn p.records) note_shape f.params (λ i d below. shape_in (length p.bases) f.named p.records (get_or f.params i d) ((formed.functions k f declared).params i d below).0)
 
--- the shape of a parameter, where there is an argument for each
-pub shape_at : (p : ProgramTree) (k n : ℕ) → TakesArguments p k n → (f : FunctionTree) → slice_get p.functions k ≡ Some f → (i : ℕ) → i < n → (s : ShapeTree) × (slice_get (parameter_shapes f) i ≡ Some s)
-shape_at p k n count f declared i below =
-    let same = same_Some count.0 f (sym count.1 ∙ declared) in
-    let many : n ≡ length f.params = count.2 ∙ ap (λ (g : FunctionTree). length g.params) same in
-    let shown = length-map f.params note_shape in
-    item_at (parameter_shapes f) i (omega (arith, below, many, shown))
+-- a count that is none of the shapes is none of the parameters
+pub wrong_count : (f : FunctionTree) (n : ℕ) (shapes : List Shape) → n ≢ length shapes → map shape_tree shapes ≡ parameter_shapes f → n ≢ length f.params
+wrong_count f n shapes other same e =
+    let shown = length-map shapes shape_tree in
+    let own = length-map f.params note_shape in
+    let lengths = ap (λ (ss : List ShapeTree). length ss) same in
+    other (omega (arith, shown, own, lengths, e))
 
 -- ---- the call
 
@@ -98,28 +100,6 @@ call_has_no_type p schemes k f inputs stop h =
 
 module _ (p : ProgramTree) (shorts : List Abbreviation) (schemes : List SchemeTree) (texts : List (List ℕ)) where
   module _ (k : ℕ) (f : FunctionTree) where
-    -- once the arguments are read
-    pub behind_arguments : (inputs : List InputTree) → AreInputs (given p shorts) (parameter_shapes f) texts inputs → (r : Result CallTree CallRefusal) → IsJudgedCall (judge_call p schemes k f (inputs_in_order inputs)) k inputs r
-        → IsCallTo p shorts schemes k f texts r
-    behind_arguments inputs read (Ok call) h = (inputs, read, h)
-    behind_arguments inputs read (Err refusal.NoFunction) h = absurd h
-    behind_arguments inputs read (Err refusal.WrongCount) h = absurd h
-    behind_arguments inputs read (Err (refusal.Argument index stop)) h = absurd h
-    behind_arguments inputs read (Err refusal.Units) h = (inputs, read, h)
-    behind_arguments inputs read (Err refusal.PowerRange) h = (inputs, read, h)
-    behind_arguments inputs read (Err refusal.Slots) h = (inputs, read, h)
-    behind_arguments inputs read (Err refusal.NoMemory) h = tt
-
-    -- where an argument is refused
-    pub at_argument : length texts ≡ length f.params → (r : CallRefusal) → AreArgumentsRead (given p shorts) (parameter_shapes f) texts (Err r) → IsCallTo p shorts schemes k f texts (Err r)
-    at_argument count refusal.NoFunction h = absurd h
-    at_argument count refusal.WrongCount h = absurd h
-    at_argument count (refusal.Argument index stop) h = (count, h)
-    at_argument count refusal.Units h = absurd h
-    at_argument count refusal.PowerRange h = absurd h
-    at_argument count refusal.Slots h = absurd h
-    at_argument count refusal.NoMemory h = tt
-
     -- once the function is found
     pub behind_name : (name : List ℕ) → IsNamed p name k f → (r : Result CallTree CallRefusal) → IsCallTo p shorts schemes k f texts r → IsCallOf p shorts schemes name texts r
     behind_name name named (Ok call) h = (k, f, named, h)

@@ -5,4 +5,9 @@ mod CallParts
 pub mod CallLaws
 pub mod UniqueCalls
 pub mod ClosedAbbreviations
+pub mod ImagePrograms
+mod HeadNames
+pub mod ImageCallLaws
+mod PlainCopies
 mod Examples
+mod ImageExamples

@@ -11,7 +11,7 @@ use Rattle.um_measures.specs.declared.abbreviation.Abbreviation.{Abbreviation}
 use Rattle.um_measures.specs.ClosedUnits.{given}
 use Rattle.um_names.specs.Resolution.{resolved_program, resolved_abbreviations}
 use Rattle.um_rows.specs.Judgement.{too_many_slots, passes_range}
-use Rattle.um_runner.specs.Arguments.{AreArgumentsOf}
+use Rattle.um_cells.specs.Arguments.{AreArgumentsOf}
 use Rattle.um_infer.specs.Inference.{all_schemes, infer}
 use Rattle.um_infer.specs.CallJudgement.{judge_call}
 use Rattle.um_run.specs.declared.call.CallRefusal.{CallRefusal}

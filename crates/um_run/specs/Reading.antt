@@ -1,23 +1,25 @@
 -- Mirrors the code: what the parts of `read_call` answer.
 -- Source: this project's own.
-use Rattle.std.specs.Prelude.{◌≡◌, ◌≢◌, ℕ, List, [], ◌∷◌, ◌++◌, length, map, slice_get, Some, Result, Ok, Err}
+use Rattle.std.specs.Prelude.{◌≡◌, ◌≢◌, ℕ, List, [], ◌∷◌, ◌++◌, map, Result, Ok, Err}
 use Rattle.um_tree.specs.TypeTree.{ShapeTree}
 use Rattle.um_tree.specs.ValueTree.{InputTree, input_tree}
 use Rattle.um_tree.specs.declared.value.Inputs.{Inputs}
-use Rattle.um_tree.specs.ProgramTree.{FunctionTree, ProgramTree}
+use Rattle.um_tree.specs.ProgramTree.{program_tree}
 use Rattle.um_measures.specs.Known.{Known}
+use Rattle.um_measures.specs.ClosedUnits.{given}
 use Rattle.um_value.specs.declared.stop.InputStop.{InputStop}
 use Rattle.um_value.specs.declared.stop.InputStop.TheVariants as input_stop
 use Rattle.um_value.specs.InputRead.{IsInputOf}
 use Rattle.um_infer.specs.declared.stop.CallStop.{CallStop}
 use Rattle.um_infer.specs.declared.stop.CallStop.TheVariants as call_stop
 use Rattle.um_run.specs.declared.call.CallRefusal.{CallRefusal}
+use Rattle.um_run.specs.declared.known.Known.{Known as KnownParts}
 use Rattle.um_run.specs.declared.call.CallRefusal.TheVariants as refusal
 use Rattle.um_run.specs.Calls.{IsInput, AreInputs, IsFirstRefused}
 
--- the function of this number takes so many arguments
-abbrev pub TakesArguments : ProgramTree → ℕ → ℕ → Type 0
-TakesArguments p k n = (f : FunctionTree) × (slice_get p.functions k ≡ Some f) × (n ≡ length f.params)
+-- the names that the texts of arguments may use
+abbrev pub known_names : KnownParts → Known
+known_names known = given (program_tree known.program.now) known.abbreviations.now
 
 -- the refusal of an argument; want of memory is none
 abbrev pub IsArgumentRefused : ℕ → InputStop → CallRefusal → Type 0
@@ -30,7 +32,7 @@ IsArgumentRefused k stop refusal.Units = ⊥
 IsArgumentRefused k stop refusal.PowerRange = ⊥
 IsArgumentRefused k stop refusal.Slots = ⊥
 
--- the input of the text stands behind those before, or the text is refused
+-- the input of the text stands after those before, or the text is refused
 abbrev pub IsArgumentAdded :
     Known → ShapeTree → List ℕ → ℕ → List InputTree → List InputTree → Result (Unit {0}) CallRefusal → Type 0
 IsArgumentAdded known s text k old new (Ok done) =

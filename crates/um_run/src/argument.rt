@@ -1,48 +1,34 @@
 //! Arguments, read at the shapes of a function's parameters.
-ghost use Rattle.std.specs.Prelude.{◌≡◌, ◌≤◌, ℕ, All, List, length, map, slice_get, string_bytes, Some};
-ghost use Rattle.um_tree.specs.TypeTree.{ShapeTree};
+ghost use Rattle.std.specs.Prelude.{◌≡◌, ◌≤◌, ℕ, All, List, length, map, string_bytes};
+ghost use Rattle.um_tree.specs.TypeTree.{shape_tree};
 ghost use Rattle.um_tree.specs.ValueTree.{input_tree};
-ghost use Rattle.um_tree.specs.ProgramTree.{FunctionTree, program_tree};
-ghost use Rattle.um_measures.specs.ClosedUnits.{given};
-ghost use Rattle.um_shape.specs.ShapedProgram.{HasParam};
-ghost use Rattle.um_value.specs.InputRead.{IsInputOf};
-ghost use Rattle.um_run.specs.Calls.{parameter_shapes};
-ghost use Rattle.um_run.specs.Reading.{TakesArguments, IsArgumentRefused, IsArgumentAdded, AreArgumentsRead};
+ghost use Rattle.um_tree.specs.ProgramTree.{program_tree};
+ghost use Rattle.um_tree.specs.Formed.{IsFormed};
+ghost use Rattle.um_value.specs.ValueGrammar.{IsShapeIn};
+ghost use Rattle.um_run.specs.Reading.{IsArgumentRefused, IsArgumentAdded, AreArgumentsRead, known_names};
 
 use crate::CallRefusal;
-use std::alloc::Global;
-use um_measures::Abbreviations;
-use um_shape::Shaped;
-use um_tree::{Input, Inputs};
+use crate::known::Known;
+use um_tree::{Input, Inputs, Shape};
 use um_value::{InputStop, read_value};
 
-/// The inputs that the texts are, one for each parameter of the function, or the first that is none.
+/// The inputs that the texts are, one at each shape, or the first that is refused.
 pub(crate) fn read_arguments(
-    alloc: Global,
-    shaped: &Shaped,
-    abbreviations: &Abbreviations,
-    function: u32,
+    known: &Known,
+    shapes: &[Shape],
     texts: &[String],
 ) -> Result<Inputs, CallRefusal>
-    requires count { TakesArguments (program_tree shaped.now) function (length texts.now) }
+    requires formed { IsFormed (program_tree known.now.program.now) }
+    requires shapes { All (IsShapeIn (program_tree known.now.program.now).records) (map shape_tree shapes.now) }
+    requires count { length texts.now ≡ length shapes.now }
     requires few { length texts.now ≤ 16 }
     requires short { All (λ (text : List ℕ). length text ≤ 1048576) (map string_bytes texts.now) }
-    ensures { (f : FunctionTree) → slice_get (program_tree shaped.now).functions function ≡ Some f
-        → AreArgumentsRead (given (program_tree shaped.now) abbreviations.now)
-        (parameter_shapes f) (map string_bytes texts.now) result }
+    ensures { AreArgumentsRead (known_names known.now) (map shape_tree shapes.now) (map string_bytes texts.now) result }
 {
-    let mut items = Vec::new(alloc);
+    let mut items = Vec::new(known.alloc);
     for k in 0..texts.len() {
         let text = texts[k].as_str();
-        match add_argument(
-            alloc,
-            shaped,
-            abbreviations,
-            function,
-            k as u32,
-            text,
-            &mut items,
-        ) {
+        match add_argument(known, &shapes[k], k as u32, text, &mut items) {
             Ok(()) => {}
             Err(refusal) => {
                 drop(items);
@@ -55,49 +41,22 @@ pub(crate) fn read_arguments(
 
 /// Adds the input that the text of argument `k` is.
 fn add_argument(
-    alloc: Global,
-    shaped: &Shaped,
-    abbreviations: &Abbreviations,
-    function: u32,
+    known: &Known,
+    shape: &Shape,
     k: u32,
     text: &str,
     inputs: &mut Vec<Input>,
 ) -> Result<(), CallRefusal>
-    requires param { HasParam (program_tree shaped.now) function k }
+    requires formed { IsFormed (program_tree known.now.program.now) }
+    requires shape { IsShapeIn (program_tree known.now.program.now).records (shape_tree shape.now) }
     requires short { length text.now ≤ 1048576 }
-    ensures { (f : FunctionTree) (s : ShapeTree) → slice_get (program_tree shaped.now).functions function ≡ Some f
-        → slice_get (parameter_shapes f) k ≡ Some s
-        → IsArgumentAdded (given (program_tree shaped.now) abbreviations.now) s text.now k
+    ensures { IsArgumentAdded (known_names known.now) (shape_tree shape.now) text.now k
         (map input_tree inputs.old.items) (map input_tree inputs.new.items) result }
 {
-    match read_argument(alloc, shaped, abbreviations, function, k, text) {
+    match read_value(known.alloc, text, shape, known.program, known.abbreviations) {
         Ok(input) => Ok(inputs.push(input)?),
         Err(stop) => Err(refusal_of(k, stop)),
     }
-}
-
-/// The input that the text of argument `k` is.
-fn read_argument(
-    alloc: Global,
-    shaped: &Shaped,
-    abbreviations: &Abbreviations,
-    function: u32,
-    k: u32,
-    text: &str,
-) -> Result<Input, InputStop>
-    requires param { HasParam (program_tree shaped.now) function k }
-    requires short { length text.now ≤ 1048576 }
-    ensures { (f : FunctionTree) (s : ShapeTree) → slice_get (program_tree shaped.now).functions function ≡ Some f
-        → slice_get (parameter_shapes f) k ≡ Some s
-        → IsInputOf (given (program_tree shaped.now) abbreviations.now) s text.now result }
-{
-    read_value(
-        alloc,
-        text,
-        shaped.param_shape(function, k),
-        shaped.program(),
-        abbreviations,
-    )
 }
 
 /// The refusal of argument `k`.

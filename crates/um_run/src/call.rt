@@ -1,4 +1,4 @@
-//! Calls, and why words are none.
+//! Calls, and why words aren't one.
 
 use std::alloc::AllocFailed;
 use um_tree::{Inputs, Ty};
@@ -12,7 +12,14 @@ pub struct Call {
     pub ty: Ty,
 }
 
-/// Why words are no call.
+/// A call of an image's function: the number of the function, its arguments in order.
+#[derive(Drop)]
+pub struct ImageCall {
+    pub function: u32,
+    pub inputs: Inputs,
+}
+
+/// Why words aren't a call.
 #[derive(Clone, Copy)]
 pub enum CallRefusal {
     /// No function has the name.

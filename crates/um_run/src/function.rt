@@ -1,8 +1,8 @@
 //! Functions by their names.
-ghost use Rattle.std.specs.Prelude.{◌≡◌, ◌≤◌, ◌<◌, length, map, slice_get, Some};
+ghost use Rattle.std.specs.Prelude.{◌≡◌, ◌≤◌, length, map};
 ghost use Rattle.std.specs.Str.{bytes_eq};
 ghost use Rattle.um_tree.specs.Formed.{IsFormed};
-ghost use Rattle.um_tree.specs.ProgramTree.{FunctionTree, function_tree, program_tree};
+ghost use Rattle.um_tree.specs.ProgramTree.{function_tree, program_tree};
 ghost use Rattle.um_measures.specs.Known.{number_of, function_names};
 
 use um_tree::{Function, Program};
@@ -31,16 +31,4 @@ fn has_name(function: &Function, name: &[u8]) -> bool
     ensures { result ≡ bytes_eq name.now function.now.name }
 {
     name == function.name.as_slice()
-}
-
-/// How many parameters the function of this number has.
-pub(crate) fn parameter_count(program: &Program, function: u32) -> usize
-    requires formed { IsFormed (program_tree program.now) }
-    requires function { function < length (program_tree program.now).functions }
-    ensures count { (f : FunctionTree) → slice_get (program_tree program.now).functions function ≡ Some f
-        → result ≡ length f.params }
-    ensures few { result ≤ 16 }
-{
-    let functions: &[Function] = &program.functions.items;
-    functions[function as usize].params.items.len()
 }

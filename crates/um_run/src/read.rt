@@ -11,7 +11,8 @@ ghost use Rattle.um_run.specs.Laws.{IsTypedCall};
 ghost use Rattle.um_run.specs.Reading.{call_refusal};
 
 use crate::argument::read_arguments;
-use crate::function::{function_named, parameter_count};
+use crate::function::function_named;
+use crate::known::Known;
 use crate::{Call, CallRefusal};
 use std::alloc::Global;
 use um_infer::{CallStop, type_call};
@@ -23,7 +24,7 @@ use um_tree::{Inputs, Schemes};
 /// for the program, and its abbreviations.
 ///
 /// Each text is read at the shape of its parameter (`um_value::read_value` has the forms and the places), and the call
-/// is typed as one more function behind all others (`um_infer::type_call`). The instances of its type are exactly the
+/// is typed as one more function after all others (`um_infer::type_call`). The instances of its type are exactly the
 /// results of the typings of the function that the arguments fit (Kennedy 1996). Each text is at most 1,048,576 bytes
 /// long, and the abbreviations' units are closed, over declared base units.
 ///
@@ -31,9 +32,9 @@ use um_tree::{Inputs, Schemes};
 ///
 /// In this order; `NoMemory` may come with any words. The order is this project's own.
 ///
-/// - `NoFunction` where no function has the name.
-/// - `WrongCount` where it has another number of parameters than there are texts.
-/// - `Argument` at the first text that is no input of its parameter's shape.
+/// - `NoFunction` if no function has the name.
+/// - `WrongCount` if it has another number of parameters than there are texts.
+/// - `Argument` at the first text that isn't an input of its parameter's shape.
 /// - `Slots`, `PowerRange` and `Units` as `type_call` has them.
 pub fn read_call(
     alloc: Global,
@@ -73,10 +74,16 @@ fn call_to(
         → IsCallTo (program_tree shaped.now) abbreviations.now (scheme_trees schemes.now) function f
         (map string_bytes texts.now) (call_answer result) }
 {
-    if texts.len() != parameter_count(shaped.program(), function) {
+    let shapes = shaped.param_shapes(function);
+    if texts.len() != shapes.len() {
         return Err(CallRefusal::WrongCount);
     }
-    let inputs = read_arguments(alloc, shaped, abbreviations, function, texts)?;
+    let known = Known {
+        alloc,
+        program: shaped.program(),
+        abbreviations,
+    };
+    let inputs = read_arguments(&known, shapes, texts)?;
     typed_call(alloc, shaped, schemes, function, inputs)
 }
 

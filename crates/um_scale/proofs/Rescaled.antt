@@ -8,7 +8,7 @@ use Rattle.um_tree.specs.ExprTree.{ExprTree, ExprTrees, truth, number, local, ca
 use Rattle.um_tree.specs.ProgramTree.{FunctionTree, ProgramTree}
 use Rattle.um_scaling.specs.RescaledProgram.{RescaledNumber, RescaledExpr, RescaledExprs, RescaledFunctions, IsRescaled}
 use Rattle.um_scale.specs.Sizes.{AreSizes, sizes}
-use Rattle.um_scale.specs.RescaledLiterals.{rescaled_number, missing, misfit, first_misfit, rescaled, all_rescaled, rescaled_function, misfit_in, rescaled_program}
+use Rattle.um_scale.specs.RescaledLiterals.{rescaled_number, misfit_at, misfit, first_misfit, rescaled, all_rescaled, rescaled_function, misfit_in, rescaled_program}
 use Rattle.um_scale.proofs.SizeFactors.{number_exact}
 
 pub neither : {A : Type 0} (x y : Option A) → option_or x y ≡ None → (x ≡ None) × (y ≡ None)
@@ -16,7 +16,7 @@ neither None y e = (refl, e)
 neither (Some z) y e = absurd cc
 
 module _ (cs : List Frac) (above : AreSizes cs) where
-  pub number_scaled : (at : ℕ) (c : Frac) (n : UnitNote) (o : Option Frac) → rescaled_number cs c n ≡ o → missing at o ≡ None → RescaledNumber (sizes cs) c n (unwrap_or o c)
+  pub number_scaled : (at : ℕ) (c : Frac) (n : UnitNote) (o : Option Frac) → rescaled_number cs c n ≡ o → misfit_at at o ≡ None → RescaledNumber (sizes cs) c n (unwrap_or o c)
   number_scaled at c n None e h = absurd cc
   number_scaled at c Hole (Some d) e h = let same : c ≡ d = cc e in sym same
   number_scaled at c (Written u) (Some d) e h = number_exact cs above u c d e

@@ -11,7 +11,7 @@ use Rattle.um_tree.specs.Formed.{IsLiteral, IsFormedInput, AreFormedInputs}
 use Rattle.um_scaling.specs.RescaledProgram.{RescaledNumber}
 use Rattle.um_scaling.specs.RescaledInput.{RescaledInput, RescaledInputs}
 use Rattle.um_scale.specs.Sizes.{AreSizes, sizes}
-use Rattle.um_scale.specs.RescaledLiterals.{rescaled_number, missing}
+use Rattle.um_scale.specs.RescaledLiterals.{rescaled_number, misfit_at}
 use Rattle.um_scale.specs.RescaledInputs.{input_numbers, inputs_numbers, is_misfit, input_misfit, rescaled_input, rescaled_inputs}
 use Rattle.um_scale.proofs.PassedNumbers.{none_before, none_behind}
 use Rattle.um_scale.proofs.Rescaled.{number_scaled}
@@ -21,12 +21,12 @@ module _ (cs : List Frac) where
   Fit numbers k = position_from (is_misfit cs) k numbers ≡ None
 
   module _ (above : AreSizes cs) where
-    is_missing : (o : Option Frac) (k : ℕ) → missing k o ≡ cond (is_none o) (Some k) None
-    is_missing None k = refl
-    is_missing (Some d) k = refl
+    misfit_at_is : (o : Option Frac) (k : ℕ) → misfit_at k o ≡ cond (is_none o) (Some k) None
+    misfit_at_is None k = refl
+    misfit_at_is (Some d) k = refl
 
     number_is : (c : Frac) (n : UnitNote) (k : ℕ) → Fit ((c, n) ∷ []) k → RescaledNumber (sizes cs) c n (unwrap_or (rescaled_number cs c n) c)
-    number_is c n k h = let o = rescaled_number cs c n in number_scaled cs above k c n o refl (is_missing o k ∙ h)
+    number_is c n k h = let o = rescaled_number cs c n in number_scaled cs above k c n o refl (misfit_at_is o k ∙ h)
 
     mutual
       input_is : (i : InputTree) (k : ℕ) → Fit (input_numbers i) k → RescaledInput (sizes cs) i (rescaled_input cs i)

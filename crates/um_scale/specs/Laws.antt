@@ -8,7 +8,7 @@ use Rattle.um_tree.specs.Meaning.{outcome_of_call}
 use Rattle.um_tree.specs.InputType.{IsTypeOfCall}
 use Rattle.um_tree.specs.Formed.{IsFormed, AreFormedInputs}
 use Rattle.um_shape.specs.FirstFault.{first_fault}
-use Rattle.um_runner.specs.Arguments.{AreArgumentsOf}
+use Rattle.um_cells.specs.Arguments.{AreArgumentsOf}
 use Rattle.um_scaling.specs.Rescaling.{Rescaling, ArePositive}
 use Rattle.um_scaling.specs.ScaledValues.{OutcomesScaled}
 use Rattle.um_scaling.specs.RescaledProgram.{IsRescaled}

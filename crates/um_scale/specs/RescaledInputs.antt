@@ -32,7 +32,7 @@ module _ (cs : List Frac) where
   input_misfit i = position_from is_misfit 0 (input_numbers i)
 
   abbrev mutual
-    -- each number rescaled, where that is in range
+    -- each number rescaled, if that is in range
     pub rescaled_input : InputTree → InputTree
     rescaled_input (truth_input b) = truth_input b
     rescaled_input (number_input c n) = number_input (unwrap_or (rescaled_number cs c n) c) n

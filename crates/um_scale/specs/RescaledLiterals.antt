@@ -15,22 +15,22 @@ use Rattle.um_tree.specs.ExprTree.{none, more}
 use Rattle.um_tree.specs.ProgramTree.{FunctionTree, ProgramTree}
 use Rattle.um_scale.specs.Sizes.{factor_within}
 
--- the number times the factor of its written unit, where each step is a number in range; a zero with a hole stays
+-- the number times the factor of its written unit, if each step is a number in range; a zero with a hole stays
 abbrev pub rescaled_number : List Frac → Frac → UnitNote → Option Frac
 rescaled_number cs c Hole = Some c
 rescaled_number cs c (Written u) = option_and_then (λ f. result_ok (product_of c f)) (factor_within cs u)
 
--- the place, where there is no number
-abbrev pub missing : ℕ → Option Frac → Option ℕ
-missing at None = Some at
-missing at (Some d) = None
+-- the place, if there is no number
+abbrev pub misfit_at : ℕ → Option Frac → Option ℕ
+misfit_at at None = Some at
+misfit_at at (Some d) = None
 
 module _ (cs : List Frac) where
   abbrev mutual
     -- the place of the first literal of which no rescaled number is in range
     pub misfit : ExprTree → Option ℕ
     misfit (truth at b) = None
-    misfit (number at c n) = missing at (rescaled_number cs c n)
+    misfit (number at c n) = misfit_at at (rescaled_number cs c n)
     misfit (local at k) = None
     misfit (call at j es) = first_misfit es
     misfit (negate at a) = misfit a
@@ -54,7 +54,7 @@ module _ (cs : List Frac) where
     first_misfit (more e es) = option_or (misfit e) (first_misfit es)
 
   abbrev mutual
-    -- each literal rescaled, where its number is in range
+    -- each literal rescaled, if its number is in range
     pub rescaled : ExprTree → ExprTree
     rescaled (truth at b) = truth at b
     rescaled (number at c n) = number at (unwrap_or (rescaled_number cs c n) c) n

@@ -1,4 +1,4 @@
--- A program's text with the numbers of a rescaled program: where a unit is written directly behind a literal's number,
+-- A program's text with the numbers of a rescaled program: where a unit is written directly after a literal's number,
 -- the number is printed anew. All other bytes stay, and so does the spelling of a number alone.
 -- Source: this project's own.
 use Rattle.std.specs.Prelude.{◌≡◌, ℕ, Bool, true, false, cond, nat_eq, ◌&&◌, List, [], ◌∷◌, ◌++◌, drop, slice_get}
@@ -69,12 +69,12 @@ abbrev pub is_less : Kind → Bool
 is_less (kind.Sign symbol.Less) = true
 is_less _ = false
 
--- the next token is a `<` directly behind: behind a number it opens a unit
+-- the next token is a `<` directly after: after a number it opens a unit
 abbrev pub opens_unit : Option Token → Bool
 opens_unit None = false
 opens_unit (Some next) = next.glued && is_less next.kind
 
--- the number that is printed in place of the token: that of the literal there, where a unit follows
+-- the number that is printed in place of the token: that of the literal there, if a unit follows
 abbrev pub new_number : (ℕ → Option Frac) → Token → Bool → Option Frac
 new_number number_at token followed = cond (is_number token.kind && followed) (number_at token.start) None
 

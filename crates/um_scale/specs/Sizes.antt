@@ -17,7 +17,7 @@ use Rattle.um_scaling.specs.Rescaling.{Factor, no_change, Rescaling}
 abbrev pub AreSizes : List Frac → Type 0
 AreSizes cs = All (λ c. pos 1 ≤ℤ numerator c) cs
 
--- base unit k has the k-th number; a variable, and a base unit behind the last, has none
+-- base unit k has the k-th number; a variable, and a base unit after the last, has none
 abbrev pub size_of : List Frac → Atom → Option Frac
 size_of cs (Base k) = slice_get cs k
 size_of cs (Var k) = None
@@ -33,7 +33,7 @@ sizes cs x = factor_of (size_of cs x)
 
 -- ---- the product, step by step
 
--- the number d times a number to a power, where both are numbers in range
+-- the number d times a number to a power, if both are numbers in range
 abbrev pub times_power : Option Frac → Frac → ℤ → Option Frac
 times_power None d k = Some d
 times_power (Some c) d k = option_and_then (λ e. result_ok (product_of d e)) (result_ok (whole_power_of c k))
@@ -43,7 +43,7 @@ product_from cs d [] = Some d
 product_from cs d (t ∷ ts) =
     option_and_then (λ e. product_from cs e ts) (times_power (size_of cs t.atom) d t.power)
 
--- the product over the unit's terms, from 1 on: nothing where a power or a partial product is out of range
+-- the product over the unit's terms, from 1 on: nothing if a power or a partial product is out of range
 abbrev pub factor_within : List Frac → PowerMap → Option Frac
 factor_within cs u = option_and_then (λ one. product_from cs one u.terms) (reduced (pos 1) (pos 1))
 

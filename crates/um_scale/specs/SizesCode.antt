@@ -1,4 +1,4 @@
--- The code's: how numbers are stored as data, by which a proof tells them apart. Two are equal where their parts are.
+-- The code's: how numbers are stored as data, by which a proof tells them apart. Two are equal if their parts are.
 -- Source: this project's own; no public clause rests on it.
 use Rattle.std.specs.Prelude.{◌≡◌, ℤ}
 use Rattle.std.specs.Coded.{Coded, coded×, coded_ℤ}

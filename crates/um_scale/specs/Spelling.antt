@@ -4,13 +4,13 @@ use Rattle.std.specs.Prelude.{ℕ, ◌≤◌, List, [], ◌∷◌, get_or, set, 
 use Rattle.um_frac.specs.declared.number.Frac.{Frac}
 use Rattle.um_syntax.specs.declared.token.Token.{Token}
 
--- each token begins behind the one before it, and ends within the text
+-- each token begins after the one before it, and ends within the text
 abbrev pub AreInOrder : ℕ → List Token → ℕ → Type 0
 AreInOrder from [] len = from ≤ len
 AreInOrder from (token ∷ tokens) len =
     (from ≤ token.start) × (token.start ≤ token.end) × (token.end ≤ len) × AreInOrder token.end tokens len
 
--- the table with each number at its place, the first where two have one place
+-- the table with each number at its place, the first if two have one place
 abbrev pub by_place : List (Option Frac) → List (ℕ × Frac) → List (Option Frac)
 by_place table [] = table
 by_place table (l ∷ ls) = set (by_place table ls) l.0 (Some l.1)

@@ -73,7 +73,7 @@ pub fn copied_notes(alloc: Global, notes: &[Note]) -> Result<Notes, AllocError>
     Ok(Notes { items })
 }
 
-/// An equal result note, where there is one.
+/// An equal result note, if there is one.
 pub fn copied_result(alloc: Global, note: &Option<Note>) -> Result<Option<Note>, AllocError>
     ensures { IfOk result (λ n. result_tree n ≡ result_tree note.now) }
 {

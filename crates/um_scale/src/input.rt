@@ -17,13 +17,13 @@ use std::alloc::{AllocError, Global};
 use um_tree::{Input, Inputs};
 
 /// The input in other sizes of the base units: each number with a written unit is multiplied by the unit's factor, and
-/// all else is equal. A number with a hole is 0, and stays.
+/// everything else is equal. A number with a hole is 0, and stays.
 ///
 /// A scale is made for each base unit of the input's units; one without a scale keeps its size.
 ///
 /// # Errors
 ///
-/// Range exactly where a factor, by its partial products, or a product with it is out of range, at the position of the
+/// Range exactly if a factor, by its partial products, or a product with it is out of range, at the position of the
 /// first such number among the input's numbers, from 0. `NoMemory` may come with any input, and so with one of more
 /// numbers than a place can count.
 ///
@@ -41,7 +41,7 @@ pub fn rescale_input(alloc: Global, input: &Input, scales: &Scales) -> Result<In
     Ok(rescaled_input(alloc, input, scales)?)
 }
 
-/// The position behind the input's last number, where its first one has the position `from`; or the stop at the first
+/// The position after the input's last number, if its first one has the position `from`; or the stop at the first
 /// number whose rescaled number is out of range. Takes no memory.
 #[cycle(passed)]
 fn passed(input: &Input, scales: &Scales, from: u32) -> Result<u32, ScaleStop>
@@ -68,7 +68,7 @@ fn all_passed(inputs: &[Input], scales: &Scales, from: u32) -> Result<u32, Scale
     Ok(next)
 }
 
-/// The next position. There is none behind the last that a place can count.
+/// The next position. There is none after the last that a place can count.
 fn behind(position: u32) -> Result<u32, ScaleStop>
     ensures { MatchResult result (λ next. next ≡ position + 1) (λ stop. stop ≡ NoMemory) }
 {

@@ -1,6 +1,6 @@
 //! Rescaling: programs, texts and inputs in other sizes of the base units, and both runs side by side.
 //!
-//! The law behind it is Kennedy's (Relational Parametricity and Units of Measure, 1997); it is proved in `um_scaling`.
+//! The law is Kennedy's (Relational Parametricity and Units of Measure, 1997); it is proved in `um_scaling`.
 //!
 //! ```
 //! let mut scales = Scales::ones(alloc, 1)?;
@@ -18,6 +18,7 @@ mod literal;
 mod outcomes;
 mod placed;
 mod program;
+mod respelling;
 mod runs;
 mod scales;
 mod stop;

@@ -1,7 +1,7 @@
 // Numbers in other sizes of their units.
 ghost use Rattle.std.specs.Prelude.{◌≡◌};
 ghost use Rattle.std.specs.Option.{unwrap_or};
-ghost use Rattle.um_scale.specs.RescaledLiterals.{rescaled_number, missing};
+ghost use Rattle.um_scale.specs.RescaledLiterals.{rescaled_number, misfit_at};
 
 use crate::Scales;
 use um_frac::Frac;
@@ -21,7 +21,7 @@ pub fn rescaled_number(number: Frac, note: &UnitNote, scales: &Scales) -> Option
     }
 }
 
-/// The rescaled number, or the number itself where that is out of range.
+/// The rescaled number, or the number itself if that is out of range.
 pub fn rescaled_or_left(number: Frac, note: &UnitNote, scales: &Scales) -> Frac
     ensures { result ≡ unwrap_or (rescaled_number scales.now number note.now) number }
 {
@@ -30,7 +30,7 @@ pub fn rescaled_or_left(number: Frac, note: &UnitNote, scales: &Scales) -> Frac
 
 /// The place, where the rescaled number is out of range.
 pub fn misfit_at(at: u32, number: Frac, note: &UnitNote, scales: &Scales) -> Option<u32>
-    ensures { result ≡ missing at (rescaled_number scales.now number note.now) }
+    ensures { result ≡ misfit_at at (rescaled_number scales.now number note.now) }
 {
     match rescaled_number(number, note, scales) {
         Some(_) => None,

@@ -34,7 +34,7 @@ fn no_numbers(alloc: Global, places: usize) -> Result<Vec<Option<Frac>>, AllocEr
     Ok(numbers)
 }
 
-/// Puts each number at its place, the first where two have one place.
+/// Puts each number at its place, the first if two have one place.
 fn put_numbers(numbers: &mut Vec<Option<Frac>>, literals: &[(u32, Frac)])
     ensures { numbers.new.items ≡ by_place numbers.old.items literals.now }
 {
@@ -44,7 +44,7 @@ fn put_numbers(numbers: &mut Vec<Option<Frac>>, literals: &[(u32, Frac)])
     }
 }
 
-/// Puts a number at its place, where there is one.
+/// Puts a number at its place, if there is one.
 fn put_number(numbers: &mut Vec<Option<Frac>>, place: u32, number: Frac)
     ensures { numbers.new.items ≡ set numbers.old.items place (Some number) }
 {
@@ -88,7 +88,7 @@ fn push_literals(found: &mut Vec<(u32, Frac)>, e: &Expr) -> Result<(), AllocErro
     }
 }
 
-/// Adds a number with its place, where its unit is written.
+/// Adds a number with its place, if its unit is written.
 fn push_literal(
     found: &mut Vec<(u32, Frac)>,
     at: u32,

@@ -16,14 +16,14 @@ use std::alloc::{AllocError, Global};
 use um_tree::{Expr, Function, Functions, Note, Program};
 
 /// The program in other sizes of its base units: each literal with a written unit is multiplied by the unit's factor,
-/// and all else is equal.
+/// and everything else is equal.
 ///
 /// A scale is made for each base unit of the program; one without a scale keeps its size. A formed program stays
 /// formed, and one whose nodes have their shapes keeps them.
 ///
 /// # Errors
 ///
-/// Range exactly where a factor, by its partial products, or a product with it is out of range, at the first such
+/// Range exactly if a factor, by its partial products, or a product with it is out of range, at the first such
 /// literal in the order of the text. `NoMemory` may come with any program.
 ///
 /// The rule is Kennedy's (1997).

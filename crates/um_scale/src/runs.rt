@@ -2,20 +2,20 @@
 ghost use Rattle.std.specs.Prelude.{◌≡◌, ◌≤◌, IfOk, Some, map};
 ghost use Rattle.um_tree.specs.ValueTree.{value_tree, outcome_tree};
 ghost use Rattle.um_tree.specs.Meaning.{outcome_of_call};
-ghost use Rattle.um_runner.specs.Arguments.{AreArgumentsOf};
+ghost use Rattle.um_cells.specs.Arguments.{AreArgumentsOf};
 ghost use Rattle.um_scale.specs.Sizes.{sizes};
 ghost use Rattle.um_scale.specs.TwinRuns.{AreTwins};
 
 use crate::{Scales, Twin};
 use std::alloc::Global;
-use um_runner::Runner;
+use um_cells::Runner;
 use um_tree::{Outcome, Values};
 use um_units::NoMemory;
 
 /// Both outcomes, each of a run of its own: the first runner's on `args`, and the second runner's on `scaled`.
 ///
 /// Both runners have the function, both lists have its parameters' shapes, and the budget is at most 10,000,000.
-/// Where the first program is formed, the second one is the first one rescaled, and the function has a typing at
+/// If the first program is formed, the second one is the first one rescaled, and the function has a typing at
 /// whose parameter types `scaled` is `args` rescaled, the second outcome is the first one rescaled at the typing's
 /// result, unless one of the two overflows. `NoMemory` is the one error.
 ///

@@ -68,7 +68,7 @@ impl Scales {
     /// The factor of a unit: the product of the scales to the unit's powers, over the base units in order of
     /// declaration.
     ///
-    /// A unit variable, and a base unit without a scale, has the scale 1. `None` exactly where one of the powers or
+    /// A unit variable, and a base unit without a scale, has the scale 1. `None` exactly if one of the powers or
     /// one of the partial products is out of range. Takes no memory.
     ///
     /// The rule is Kennedy's (1997): numbers of a unit change by the product of its base units' factors to their
@@ -95,7 +95,7 @@ impl Scales {
         }
     }
 
-    /// The number times the scale of the term's atom to the term's power, where both are in range.
+    /// The number times the scale of the term's atom to the term's power, if both are in range.
     fn times_power(&self, number: Frac, term: Term) -> Option<Frac>
         ensures { result ≡ times_power (size_of self.now term.atom) number term.power }
     {

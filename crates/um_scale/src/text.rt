@@ -9,6 +9,7 @@ ghost use Rattle.um_scale.specs.RescaledText.{spelling, respelled, IsRescaledTex
 ghost use Rattle.um_scale.specs.Spelling.{AreInOrder, number_at};
 
 use crate::placed::numbers_by_place;
+use crate::respelling::Respelling;
 use std::alloc::{AllocError, Global};
 use um_frac::Frac;
 use um_show::number_text;
@@ -19,7 +20,7 @@ use um_units::NoMemory;
 /// The text with the numbers of a rescaled program: the number token of each literal that carries a written unit is
 /// replaced by the number of that program's literal at its place, and all other bytes stay.
 ///
-/// A literal carries a written unit where `<`, a unit and `>` follow its number, so `2.50` alone keeps its spelling.
+/// A literal carries a written unit if `<`, a unit and `>` follow its number, so `2.50` alone keeps its spelling.
 /// The text is at most 1,048,576 bytes long and has tokens, as that of a program. The program is the text's own,
 /// rescaled: a literal of another place changes nothing. `NoMemory` is the one error.
 ///
@@ -52,79 +53,74 @@ fn respelled_by(
         ≡ respelled bytes.now (literal_at (literals_of (map function_tree functions.now))) 0 tokens.now) }
 {
     let numbers = numbers_by_place(alloc, bytes.len() + 1, functions)?;
-    respelled(alloc, bytes, &numbers, tokens)
+    let respelling = Respelling {
+        alloc,
+        bytes,
+        numbers: &numbers,
+    };
+    respelled(&respelling, tokens)
 }
 
 /// The bytes with the numbers of the table.
-fn respelled(
-    alloc: Global,
-    bytes: &[u8],
-    numbers: &[Option<Frac>],
-    tokens: &[Token],
-) -> Result<Vec<u8>, AllocError>
-    requires places { length numbers.now ≡ length bytes.now + 1 }
-    requires in_order { AreInOrder 0 tokens.now (length bytes.now) }
-    ensures { IfOk result (λ text. text.items ≡ respelled bytes.now (number_at numbers.now) 0 tokens.now) }
+fn respelled(respelling: &Respelling, tokens: &[Token]) -> Result<Vec<u8>, AllocError>
+    requires { AreInOrder 0 tokens.now (length respelling.now.bytes.now) }
+    ensures { IfOk result (λ text. text.items
+        ≡ respelled respelling.now.bytes.now (number_at respelling.now.numbers.now) 0 tokens.now) }
 {
-    let mut text = Vec::new(alloc);
+    let mut text = Vec::new(respelling.alloc);
     let mut from = 0;
     for k in 0..tokens.len() {
         let token = &tokens[k];
         let followed = opens_unit(tokens, k + 1);
-        push_token(alloc, &mut text, bytes, numbers, from, token, followed)?;
+        push_token(respelling, &mut text, from, token, followed)?;
         from = token.end;
     }
-    text.extend_from_slice(&bytes[from as usize..])?;
+    text.extend_from_slice(&respelling.bytes[from as usize..])?;
     Ok(text)
 }
 
 /// Adds the bytes before a token, and the token's spelling.
 fn push_token(
-    alloc: Global,
+    respelling: &Respelling,
     text: &mut Vec<u8>,
-    bytes: &[u8],
-    numbers: &[Option<Frac>],
     from: u32,
     token: &Token,
     followed: bool,
 ) -> Result<(), AllocError>
-    requires places { length numbers.now ≡ length bytes.now + 1 }
     requires from { from ≤ token.now.start }
     requires start { token.now.start ≤ token.now.end }
-    requires end { token.now.end ≤ length bytes.now }
-    ensures { OnOk result (text.new.items ≡ text.old.items ++ (slice_range bytes.now from token.now.start
-        ++ spelling bytes.now (number_at numbers.now) token.now followed)) }
+    requires end { token.now.end ≤ length respelling.now.bytes.now }
+    ensures { OnOk result (text.new.items
+        ≡ text.old.items ++ (slice_range respelling.now.bytes.now from token.now.start
+        ++ spelling respelling.now.bytes.now (number_at respelling.now.numbers.now) token.now followed)) }
 {
-    text.extend_from_slice(&bytes[from as usize..token.start as usize])?;
-    push_spelling(alloc, text, bytes, numbers, token, followed)?;
+    text.extend_from_slice(&respelling.bytes[from as usize..token.start as usize])?;
+    push_spelling(respelling, text, token, followed)?;
     Ok(())
 }
 
 /// Adds a token as it stands, or the number that is printed in its place.
 fn push_spelling(
-    alloc: Global,
+    respelling: &Respelling,
     text: &mut Vec<u8>,
-    bytes: &[u8],
-    numbers: &[Option<Frac>],
     token: &Token,
     followed: bool,
 ) -> Result<(), AllocError>
-    requires places { length numbers.now ≡ length bytes.now + 1 }
     requires start { token.now.start ≤ token.now.end }
-    requires end { token.now.end ≤ length bytes.now }
-    ensures { OnOk result (text.new.items
-        ≡ text.old.items ++ spelling bytes.now (number_at numbers.now) token.now followed) }
+    requires end { token.now.end ≤ length respelling.now.bytes.now }
+    ensures { OnOk result (text.new.items ≡ text.old.items
+        ++ spelling respelling.now.bytes.now (number_at respelling.now.numbers.now) token.now followed) }
 {
-    match new_number(numbers, token, followed) {
+    match new_number(respelling.numbers, token, followed) {
         Some(number) => {
-            let digits = number_text(alloc, number)?;
+            let digits = number_text(respelling.alloc, number)?;
             text.extend_from_slice(&digits)
         }
-        None => text.extend_from_slice(&bytes[token.start as usize..token.end as usize]),
+        None => text.extend_from_slice(&respelling.bytes[token.start as usize..token.end as usize]),
     }
 }
 
-/// The number that is printed in place of a token, where there is one.
+/// The number that is printed in place of a token, if there is one.
 fn new_number(numbers: &[Option<Frac>], token: &Token, followed: bool) -> Option<Frac>
     requires { token.now.start < length numbers.now }
     ensures { result ≡ new_number (number_at numbers.now) token.now followed }
@@ -142,7 +138,7 @@ fn is_number(kind: &Kind) -> bool
     matches!(kind, Kind::Number { .. })
 }
 
-/// Whether the token of this number is a `<` directly behind the one before it.
+/// Whether the token of this number is a `<` directly after the one before it.
 fn opens_unit(tokens: &[Token], k: usize) -> bool
     ensures { result ≡ opens_unit (slice_get tokens.now k) }
 {

@@ -1,5 +1,5 @@
 -- What is trusted, in the order in which it is to be read: the factor of a unit, values at a type in other sizes, a
--- program and an input in other sizes, and values whose numbers are 0 where their unit is left open.
+-- program and an input in other sizes, and values whose numbers are 0 if their unit is left open.
 pub mod Rescaling
 pub mod ScaledValues
 pub mod RescaledProgram

@@ -1,5 +1,5 @@
 -- Values and outcomes at a type, in other sizes of the units.
--- Source: Kennedy's scaling relation (1997): numbers differ by their unit's factor, and all else follows the type.
+-- Source: Kennedy's scaling relation (1997): numbers differ by their unit's factor, and the rest follows the type.
 use Rattle.std.specs.Prelude.{◌≡◌, List, [], ◌∷◌, map}
 use Rattle.um_frac.specs.declared.number.Trap.TheVariants.{Overflow, DivZero}
 use Rattle.um_tree.specs.TypeTree.{TypeTree, bool_type, num_type, list_type, record_type}
@@ -40,7 +40,7 @@ module _ (records : List RecordTree) (r : Rescaling) where
   AllScaled vs ts ws = ⊥
 
   -- both use the budget up, or both divide by 0, or both give values, at the type and the second rescaled; nothing is
-  -- said where one overflows
+  -- said if one overflows
   abbrev pub OutcomesScaled : OutcomeTree → TypeTree → OutcomeTree → Type 0
   OutcomesScaled (trap_outcome Overflow) t o = Unit {0}
   OutcomesScaled o t (trap_outcome Overflow) = Unit {0}

@@ -11,7 +11,7 @@ ghost use Rattle.um_scaling.specs.Laws.{
 
 /// A program that is another one rescaled ends its calls as that one does, on arguments that are rescaled too and at
 /// every budget: both use the budget up, or both divide by 0, or both give values, and the second value is the first
-/// one rescaled. Nothing is said where one of the two overflows.
+/// one rescaled. Nothing is said if one of the two overflows.
 pub fn scaling()
     ensures { ScalingLaw }
 {}
@@ -22,7 +22,7 @@ pub fn factors()
     ensures powers { FactorsArePowers }
 {}
 
-/// A formed program stays formed where it is rescaled.
+/// A formed program stays formed when it is rescaled.
 pub fn rescaled_programs()
     ensures { RescaledIsFormed }
 {}
@@ -32,7 +32,7 @@ pub fn rescaled_inputs()
     ensures { RescaledInputsAreScaled }
 {}
 
-/// A number of a call's value is 0 where its unit isn't closed.
+/// A number of a call's value is 0 if its unit isn't closed.
 pub fn free_zeros()
     ensures results { FreeZeros }
     ensures calls { FreeZerosOfCalls }

@@ -12,7 +12,7 @@ use Rattle.um_shape.specs.FlatShapes.{flat_shape, flat_shapes}
 use Rattle.um_shape.specs.declared.flat.FlatShape.{FlatShape}
 use Rattle.um_shape.specs.declared.stop.ShapeStop.{ShapeStop}
 use Rattle.um_shape.specs.declared.stop.ShapeStop.TheVariants as stop
-use Rattle.um_shape.specs.Stops.{StopsAs}
+use Rattle.um_shape.specs.Stops.{IsFoundFault}
 use Rattle.um_shape.proofs.Stopping.{stops_first}
 
 -- the shapes found, with these before them
@@ -33,7 +33,7 @@ from_end [] (suc i) h = refl
 from_end (x ∷ es) zero h = absurd (omega (arith, h))
 from_end (x ∷ es) (suc i) h = from_end es i (omega (arith, h))
 
-stops_after : (ss : List ShapeTree) (m : Result (List ShapeTree) ShapeFault) (s : ShapeStop) → StopsAs m s → StopsAs (after_these ss m) s
+stops_after : (ss : List ShapeTree) (m : Result (List ShapeTree) ShapeFault) (s : ShapeStop) → IsFoundFault m s → IsFoundFault (after_these ss m) s
 stops_after ss m (stop.Shape at) h = ap (after_these ss) h
 stops_after ss m (stop.Depth at) h = ap (after_these ss) h
 stops_after ss m stop.NoMemory h = tt
@@ -62,9 +62,9 @@ module _ (records : List RecordShape) (callees : List ShapeSignature) (vars : Li
   low_at es i e h s l = subst HaveLowNotes (from_more es i e h s) l
 
   -- what is found of the next one stops the whole, or is one more shape
-  pub left_stops : (es : List Expr) (i : ℕ) (e : Expr) (shapes scope : List FlatShape) (s : ShapeStop) → i < length es → e ≡ get_or es i e → IsLeft records callees vars es i shapes scope → StopsAs (found records callees (flat_shapes scope) (expr_tree e)) s → StopsAs (seen (from es 0)) s
+  pub left_stops : (es : List Expr) (i : ℕ) (e : Expr) (shapes scope : List FlatShape) (s : ShapeStop) → i < length es → e ≡ get_or es i e → IsLeft records callees vars es i shapes scope → IsFoundFault (found records callees (flat_shapes scope) (expr_tree e)) s → IsFoundFault (seen (from es 0)) s
   left_stops es i e shapes scope s h g l f =
-      subst (λ m. StopsAs m s) (sym (l.whole ∙ ap (λ r. after_these (flat_shapes shapes) (seen r)) (from_more es i e h g))) (stops_after (flat_shapes shapes) _ s (stops_first _ _ s (subst (λ vs. StopsAs (found records callees (flat_shapes vs) (expr_tree e)) s) l.same_scope f)))
+      subst (λ m. IsFoundFault m s) (sym (l.whole ∙ ap (λ r. after_these (flat_shapes shapes) (seen r)) (from_more es i e h g))) (stops_after (flat_shapes shapes) _ s (stops_first _ _ s (subst (λ vs. IsFoundFault (found records callees (flat_shapes vs) (expr_tree e)) s) l.same_scope f)))
 
   pub left_next : (es : List Expr) (i : ℕ) (e : Expr) (shapes scope other : List FlatShape) (f : FlatShape) → i < length es → e ≡ get_or es i e → IsLeft records callees vars es i shapes scope → found records callees (flat_shapes scope) (expr_tree e) ≡ Ok (flat_shape f) → other ≡ scope → IsLeft records callees vars es (i + 1) (shapes ++ f ∷ []) other
   left_next es i e shapes scope other f h g l found_is same = record {

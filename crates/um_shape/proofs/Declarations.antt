@@ -10,7 +10,7 @@ use Rattle.um_tree.specs.Heights.{greatest_height}
 use Rattle.um_shape.specs.RecordShapes.{RecordShape, tallest}
 use Rattle.um_shape.specs.FirstFault.{ShapeFault, wrong_shape, too_deep, then, found, own_shapes, fits_result, function_found, record_found}
 use Rattle.um_shape.specs.declared.stop.ShapeStop.{ShapeStop}
-use Rattle.um_shape.specs.Stops.{StopsAs}
+use Rattle.um_shape.specs.Stops.{IsFoundFault}
 use Rattle.um_shape.proofs.Stopping.{stops_first}
 
 -- what holds of all that some elements stand for
@@ -56,8 +56,8 @@ module _ (records : List RecordShape) (known : List ShapeSignature) (f : Functio
   looks : tallest records params ≤ greatest_height → function_found records known f ≡ then (body params) (ends params)
   looks h = ap with_params (sym same) ∙ ap (λ b. cond b (then (body params) (ends params)) (Err (too_deep f.at))) (low_is (tallest records params) h)
 
-  pub function_stops : (s : ShapeStop) → tallest records params ≤ greatest_height → StopsAs (body params) s → StopsAs (function_found records known f) s
-  function_stops s h k = subst (λ m. StopsAs m s) (sym (looks h)) (stops_first (body params) (ends params) s k)
+  pub function_stops : (s : ShapeStop) → tallest records params ≤ greatest_height → IsFoundFault (body params) s → IsFoundFault (function_found records known f) s
+  function_stops s h k = subst (λ m. IsFoundFault m s) (sym (looks h)) (stops_first (body params) (ends params) s k)
 
   pub function_other : (s : ShapeTree) → tallest records params ≤ greatest_height → body params ≡ Ok s → fits_result f.result s ≡ false → function_found records known f ≡ Err (wrong_shape f.at)
   function_other s h k e =

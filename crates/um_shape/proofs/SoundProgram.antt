@@ -9,7 +9,7 @@ use Rattle.um_tree.specs.Shapes.{type_shape, note_shape, ShapeSignature, CallSha
 use Rattle.um_tree.specs.Heights.{greatest_height}
 use Rattle.um_shape.specs.RecordShapes.{RecordShape, tallest, declared_shape}
 use Rattle.um_shape.specs.FirstFault.{ShapeFault, wrong_shape, too_deep, then, found, own_shapes, noted_shapes, fits_result, function_found, functions_found, record_found, records_found, program_found}
-use Rattle.um_shape.specs.ShapedProgram.{HasParam, IsParamShape, IsResultShape}
+use Rattle.um_shape.specs.ShapedProgram.{HasParam, IsParamShape, AreParamShapes, IsResultShape}
 use Rattle.um_tree.proofs.Below.{earlier_shapes_are}
 use Rattle.um_shape.proofs.SameShape.{same_shape-is}
 use Rattle.um_shape.proofs.Sound.{then_ok, Alike, sound}
@@ -186,6 +186,9 @@ module _ (p : ProgramTree) (gs : List ShapeSignature) (e : program_found p ≡ O
   param_is i k g s there here f named =
       let w = its_shapes p i f g named ((found_are_shapes p gs e).0 i g there) in
       ap (λ ss. slice_get ss k) (sym w.params) ∙ here
+
+  pub params_are : (i : ℕ) (g : ShapeSignature) → slice_get gs i ≡ Some g → AreParamShapes p i g.params
+  params_are i g there f named = (its_shapes p i f g named ((found_are_shapes p gs e).0 i g there)).params
 
   pub result_is : (i : ℕ) (g : ShapeSignature) → slice_get gs i ≡ Some g → IsResultShape p i g.result
   result_is i g there f named =

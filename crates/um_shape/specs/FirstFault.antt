@@ -23,7 +23,7 @@ abbrev pub then : {A B : Type 0} → Result A ShapeFault → (A → Result B Sha
 then (Ok x) go = go x
 then (Err e) go = Err e
 
--- ---- the shape of a node, from those of its parts, where its rule gives one
+-- ---- the shape of a node, from those of its parts, if its rule gives one
 
 abbrev pub same_shape : ShapeTree → ShapeTree → Bool
 same_shape bool_shape bool_shape = true
@@ -92,7 +92,7 @@ of_field (Some d) r k s = cond (same_shape s (record_shape r)) (slice_get d.fiel
 
 -- ---- the first fault of an expression
 
--- the item's shape, where a list is asked for
+-- the item's shape, if a list is asked for
 abbrev pub item_of : ℕ → ShapeTree → Result ShapeTree ShapeFault
 item_of at (list_shape s) = Ok s
 item_of at s = Err (wrong_shape at)
@@ -105,7 +105,7 @@ at_node records at (Some s) = cond (nat_le (shape_height records s) greatest_hei
 -- the records, and the functions that may be called
 module _ (records : List RecordShape) (callees : List ShapeSignature) where
   abbrev mutual
-    -- the shape of the expression, or its first fault, where the variables of the scope have these shapes
+    -- the shape of the expression, or its first fault, if the variables of the scope have these shapes
     pub found : List ShapeTree → ExprTree → Result ShapeTree ShapeFault
     found vars (truth at b) = at_node records at (Some bool_shape)
     found vars (number at c n) = at_node records at (Some num_shape)
@@ -156,12 +156,12 @@ noted_shapes params (Some n) = record { params = map note_shape params; result =
 abbrev pub own_shapes : FunctionTree → List ShapeSignature
 own_shapes f = cond f.recursive (noted_shapes f.params f.result) []
 
--- the shape is that of the result's note, where one is written
+-- the shape is that of the result's note, if one is written
 abbrev pub fits_result : Option NoteTree → ShapeTree → Bool
 fits_result None s = true
 fits_result (Some n) s = same_shape s (note_shape n)
 
--- the parameters, the body, and then the result, where the functions before have these shapes
+-- the parameters, the body, and then the result, if the functions before have these shapes
 abbrev pub function_found : List RecordShape → List ShapeSignature → FunctionTree → Result ShapeSignature ShapeFault
 function_found records known f =
     cond

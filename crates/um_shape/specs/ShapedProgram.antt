@@ -26,6 +26,10 @@ abbrev pub IsParamShape : ProgramTree → ℕ → ℕ → ShapeTree → Type 0
 IsParamShape p i k s =
     (f : FunctionTree) → slice_get p.functions i ≡ Some f → slice_get (map note_shape f.params) k ≡ Some s
 
+-- the shapes of the parameters of function i, in order
+abbrev pub AreParamShapes : ProgramTree → ℕ → List ShapeTree → Type 0
+AreParamShapes p i ss = (f : FunctionTree) → slice_get p.functions i ≡ Some f → ss ≡ map note_shape f.params
+
 -- function i has its parameters' shapes and this shape of its result
 abbrev pub IsResultShape : ProgramTree → ℕ → ShapeTree → Type 0
 IsResultShape p i s =

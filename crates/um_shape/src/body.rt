@@ -3,7 +3,8 @@ ghost use Rattle.std.specs.Prelude.{◌≡◌, IfOk, map};
 ghost use Rattle.um_tree.specs.ExprTree.{expr_tree, in_order, if, bind, split};
 ghost use Rattle.um_shape.specs.LowNotes.{HasLowNotes, HaveLowNotes};
 ghost use Rattle.um_shape.specs.FirstFault.{same_shape, where_true, at_node, then};
-ghost use Rattle.um_shape.specs.FlatShapes.{flat_shape, flat_shapes, of_pair, known_records, known_found, all_known_found};
+ghost use Rattle.um_shape.specs.FlatShapes.{flat_shape, flat_shapes, of_pair, known_records, known_found};
+ghost use Rattle.um_shape.specs.FlatShapes.{all_known_found};
 ghost use Rattle.um_shape.specs.Stops.{IsFound, AreFound};
 
 use crate::ShapeStop;
@@ -14,69 +15,70 @@ use crate::rules::{PairRule, item_of, itself, of_arms, of_condition, of_list, of
 use std::alloc::Global;
 use um_tree::{Expr, Node};
 
-/// The shape of the expression, where the variables of the scope have these shapes, or its first fault.
+/// What stays the same while a body is looked at.
+#[derive(Drop)]
+pub(crate) struct Body<'a> {
+    pub(crate) alloc: Global,
+    pub(crate) known: &'a Known,
+}
+
+/// The shape of the expression, if the variables of the scope have these shapes, or its first fault.
 ///
-/// The scope is as before where there is a shape.
+/// The scope is as before if there is a shape.
 #[cycle(body)]
 pub(crate) fn shape_of(
-    alloc: Global,
-    known: &Known,
+    body: &Body,
     scope: &mut Vec<FlatShape>,
     e: &Expr,
 ) -> Result<FlatShape, ShapeStop>
     requires low { HasLowNotes (expr_tree e.now) }
-    ensures found { IsFound result (known_found known.now scope.old.items (expr_tree e.now)) }
+    ensures found { IsFound result (known_found body.now.known.now scope.old.items (expr_tree e.now)) }
     ensures scope { IfOk result (λ _. scope.new.items ≡ scope.old.items) }
 {
     let at = e.at;
     match &e.node {
-        Node::Bool(_) => known.at_node(at, Some(FlatShape::truth())),
-        Node::Num(_, _) => known.at_node(at, Some(FlatShape::number())),
-        Node::Local(k) => known.at_node(at, shape_at(scope, *k)),
-        Node::Nil(note) => known.at_node(at, of_list(FlatShape::of_note(note))),
+        Node::Bool(_) => body.known.at_node(at, Some(FlatShape::truth())),
+        Node::Num(_, _) => body.known.at_node(at, Some(FlatShape::number())),
+        Node::Local(k) => body.known.at_node(at, shape_at(scope, *k)),
+        Node::Nil(note) => body.known.at_node(at, of_list(FlatShape::of_note(note))),
         Node::Call(f, arguments) => {
-            let arguments = shapes_of(alloc, known, scope, &arguments.items)?;
-            known.at_node(at, known.call(*f, &arguments))
+            let arguments = shapes_of(body, scope, &arguments.items)?;
+            body.known.at_node(at, body.known.call(*f, &arguments))
         }
         Node::List(items) => {
-            let items = shapes_of(alloc, known, scope, &items.items)?;
-            known.at_list(at, &items)
+            let items = shapes_of(body, scope, &items.items)?;
+            body.known.at_list(at, &items)
         }
         Node::Rec(r, parts) => {
-            let parts = shapes_of(alloc, known, scope, &parts.items)?;
-            known.at_node(at, known.record(*r, &parts))
+            let parts = shapes_of(body, scope, &parts.items)?;
+            body.known.at_node(at, body.known.record(*r, &parts))
         }
         Node::Field(r, k, a) => {
-            let part = shape_of(alloc, known, scope, a)?;
-            known.at_node(at, known.field(*r, *k, part))
+            let part = shape_of(body, scope, a)?;
+            body.known.at_node(at, body.known.field(*r, *k, part))
         }
-        Node::Neg(a) | Node::Pow(a, _) => {
-            asked_shape(alloc, known, scope, at, a, FlatShape::number())
-        }
-        Node::Not(a) => asked_shape(alloc, known, scope, at, a, FlatShape::truth()),
+        Node::Neg(a) | Node::Pow(a, _) => { asked_shape(body, scope, at, a, FlatShape::number()) }
+        Node::Not(a) => asked_shape(body, scope, at, a, FlatShape::truth()),
         Node::Arith(_, a, b) => {
             let rule = PairRule::Numbers(FlatShape::number());
-            pair_shape(alloc, known, scope, at, a, b, rule)
+            pair_shape(body, scope, at, a, b, rule)
         }
         Node::Compare(_, a, b) => {
             let rule = PairRule::Numbers(FlatShape::truth());
-            pair_shape(alloc, known, scope, at, a, b, rule)
+            pair_shape(body, scope, at, a, b, rule)
         }
-        Node::And(a, b) | Node::Or(a, b) => {
-            pair_shape(alloc, known, scope, at, a, b, PairRule::Truths)
-        }
-        Node::Cons(a, b) => pair_shape(alloc, known, scope, at, a, b, PairRule::HeadAndTail),
-        Node::If(c, a, b) => if_shape(alloc, known, scope, at, c, a, b),
-        Node::Let(a, b) => let_shape(alloc, known, scope, at, a, b),
-        Node::Match(l, a, b) => match_shape(alloc, known, scope, at, l, a, b),
+        Node::And(a, b) | Node::Or(a, b) => { pair_shape(body, scope, at, a, b, PairRule::Truths) }
+        Node::Cons(a, b) => pair_shape(body, scope, at, a, b, PairRule::HeadAndTail),
+        Node::If(c, a, b) => if_shape(body, scope, at, c, a, b),
+        Node::Let(a, b) => let_shape(body, scope, at, a, b),
+        Node::Match(l, a, b) => match_shape(body, scope, at, l, a, b),
     }
 }
 
 /// The shape that is asked for of the part, at a node at this place.
 #[cycle(body)]
 fn asked_shape(
-    alloc: Global,
-    known: &Known,
+    body: &Body,
     scope: &mut Vec<FlatShape>,
     at: u32,
     a: &Expr,
@@ -84,20 +86,19 @@ fn asked_shape(
 ) -> Result<FlatShape, ShapeStop>
     requires low { HasLowNotes (expr_tree a.now) }
     ensures found { IsFound result
-        (then (known_found known.now scope.old.items (expr_tree a.now))
-        (λ s. at_node (known_records known.now.records.items) at
+        (then (known_found body.now.known.now scope.old.items (expr_tree a.now))
+        (λ s. at_node (known_records body.now.known.now.records.items) at
         (where_true (same_shape s (flat_shape asked)) (flat_shape asked)))) }
     ensures scope { IfOk result (λ _. scope.new.items ≡ scope.old.items) }
 {
-    let part = shape_of(alloc, known, scope, a)?;
-    known.at_node(at, itself(part, asked))
+    let part = shape_of(body, scope, a)?;
+    body.known.at_node(at, itself(part, asked))
 }
 
 /// The whole of two parts, by the rule of their node.
 #[cycle(body)]
 fn pair_shape(
-    alloc: Global,
-    known: &Known,
+    body: &Body,
     scope: &mut Vec<FlatShape>,
     at: u32,
     a: &Expr,
@@ -106,21 +107,20 @@ fn pair_shape(
 ) -> Result<FlatShape, ShapeStop>
     requires low { HasLowNotes (expr_tree a.now) × HasLowNotes (expr_tree b.now) }
     ensures found { IsFound result
-        (then (known_found known.now scope.old.items (expr_tree a.now))
-        (λ s. then (known_found known.now scope.old.items (expr_tree b.now))
-        (λ t. at_node (known_records known.now.records.items) at (of_pair rule s t)))) }
+        (then (known_found body.now.known.now scope.old.items (expr_tree a.now))
+        (λ s. then (known_found body.now.known.now scope.old.items (expr_tree b.now))
+        (λ t. at_node (known_records body.now.known.now.records.items) at (of_pair rule s t)))) }
     ensures scope { IfOk result (λ _. scope.new.items ≡ scope.old.items) }
 {
-    let left = shape_of(alloc, known, scope, a)?;
-    let right = shape_of(alloc, known, scope, b)?;
-    known.at_node(at, of_pair(rule, left, right))
+    let left = shape_of(body, scope, a)?;
+    let right = shape_of(body, scope, b)?;
+    body.known.at_node(at, of_pair(rule, left, right))
 }
 
 /// The shape of a condition and its arms.
 #[cycle(body)]
 fn if_shape(
-    alloc: Global,
-    known: &Known,
+    body: &Body,
     scope: &mut Vec<FlatShape>,
     at: u32,
     c: &Expr,
@@ -129,20 +129,20 @@ fn if_shape(
 ) -> Result<FlatShape, ShapeStop>
     requires low { HasLowNotes (expr_tree c.now) × HasLowNotes (expr_tree a.now) × HasLowNotes (expr_tree b.now) }
     ensures found { IsFound result
-        (known_found known.now scope.old.items (if at (expr_tree c.now) (expr_tree a.now) (expr_tree b.now))) }
+        (known_found body.now.known.now scope.old.items (if at (expr_tree c.now) (expr_tree a.now) (expr_tree b.now))) }
     ensures scope { IfOk result (λ _. scope.new.items ≡ scope.old.items) }
 {
-    let condition = shape_of(alloc, known, scope, c)?;
-    let first = shape_of(alloc, known, scope, a)?;
-    let second = shape_of(alloc, known, scope, b)?;
-    known.at_node(at, of_condition(condition, first, second))
+    let condition = shape_of(body, scope, c)?;
+    let first = shape_of(body, scope, a)?;
+    let second = shape_of(body, scope, b)?;
+    body.known
+        .at_node(at, of_condition(condition, first, second))
 }
 
 /// The shape of `let`: the second part has one more variable.
 #[cycle(body)]
 fn let_shape(
-    alloc: Global,
-    known: &Known,
+    body: &Body,
     scope: &mut Vec<FlatShape>,
     at: u32,
     a: &Expr,
@@ -150,21 +150,20 @@ fn let_shape(
 ) -> Result<FlatShape, ShapeStop>
     requires low { HasLowNotes (expr_tree a.now) × HasLowNotes (expr_tree b.now) }
     ensures found { IsFound result
-        (known_found known.now scope.old.items (bind at (expr_tree a.now) (expr_tree b.now))) }
+        (known_found body.now.known.now scope.old.items (bind at (expr_tree a.now) (expr_tree b.now))) }
     ensures scope { IfOk result (λ _. scope.new.items ≡ scope.old.items) }
 {
-    let bound = shape_of(alloc, known, scope, a)?;
+    let bound = shape_of(body, scope, a)?;
     scope.push(bound)?;
-    let whole = shape_of(alloc, known, scope, b)?;
+    let whole = shape_of(body, scope, b)?;
     scope.pop();
-    known.at_node(at, Some(whole))
+    body.known.at_node(at, Some(whole))
 }
 
 /// The shape of `match` on a list: the last part has two more variables, head and tail.
 #[cycle(body)]
 fn match_shape(
-    alloc: Global,
-    known: &Known,
+    body: &Body,
     scope: &mut Vec<FlatShape>,
     at: u32,
     l: &Expr,
@@ -173,36 +172,36 @@ fn match_shape(
 ) -> Result<FlatShape, ShapeStop>
     requires low { HasLowNotes (expr_tree l.now) × HasLowNotes (expr_tree a.now) × HasLowNotes (expr_tree b.now) }
     ensures found { IsFound result
-        (known_found known.now scope.old.items (split at (expr_tree l.now) (expr_tree a.now) (expr_tree b.now))) }
+        (known_found body.now.known.now scope.old.items
+        (split at (expr_tree l.now) (expr_tree a.now) (expr_tree b.now))) }
     ensures scope { IfOk result (λ _. scope.new.items ≡ scope.old.items) }
 {
-    let list = shape_of(alloc, known, scope, l)?;
+    let list = shape_of(body, scope, l)?;
     let item = item_of(at, list)?;
-    let empty = shape_of(alloc, known, scope, a)?;
+    let empty = shape_of(body, scope, a)?;
     scope.push(item)?;
     scope.push(list)?;
-    let full = shape_of(alloc, known, scope, b)?;
+    let full = shape_of(body, scope, b)?;
     scope.pop();
     scope.pop();
-    known.at_node(at, of_arms(empty, full))
+    body.known.at_node(at, of_arms(empty, full))
 }
 
 /// The shapes of expressions one after another, or their first fault.
 #[cycle(body)]
 fn shapes_of(
-    alloc: Global,
-    known: &Known,
+    body: &Body,
     scope: &mut Vec<FlatShape>,
     parts: &[Expr],
 ) -> Result<Vec<FlatShape>, ShapeStop>
     requires low { HaveLowNotes (in_order (map expr_tree parts.now)) }
     ensures found { AreFound (λ shapes. flat_shapes shapes.items) result
-        (all_known_found known.now scope.old.items (in_order (map expr_tree parts.now))) }
+        (all_known_found body.now.known.now scope.old.items (in_order (map expr_tree parts.now))) }
     ensures scope { IfOk result (λ _. scope.new.items ≡ scope.old.items) }
 {
-    let mut shapes = Vec::new(alloc);
+    let mut shapes = Vec::new(body.alloc);
     for i in 0..parts.len() {
-        shapes.push(shape_of(alloc, known, scope, &parts[i])?)?;
+        shapes.push(shape_of(body, scope, &parts[i])?)?;
     }
     Ok(shapes)
 }

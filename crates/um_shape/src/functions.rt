@@ -11,10 +11,10 @@ ghost use Rattle.um_shape.specs.LowNotes.{HasLowResult, IsLow};
 ghost use Rattle.um_shape.specs.FirstFault.{found, own_shapes, fits_result};
 ghost use Rattle.um_shape.specs.FlatShapes.{flat_shape, flat_shapes, known_records, head_shapes, heads_shapes};
 ghost use Rattle.um_shape.specs.FlatShapes.{known_function_found, known_functions_found};
-ghost use Rattle.um_shape.specs.Stops.{IsFound, StopsAs};
+ghost use Rattle.um_shape.specs.Stops.{IsFound, IsFoundFault};
 
 use crate::ShapeStop;
-use crate::body::shape_of;
+use crate::body::{Body, shape_of};
 use crate::flat::FlatShape;
 use crate::known::{Head, Known};
 use crate::records::tallest;
@@ -30,7 +30,7 @@ pub(crate) fn add_heads(
 ) -> Result<(), ShapeStop>
     requires low { All (λ f. IsLow (function_tree f)) functions.now }
     ensures { let found = known_functions_found known.old (map function_tree functions.now) in MatchResult result
-        (λ _. found ≡ Ok (heads_shapes known.new.heads.items)) (StopsAs found) }
+        (λ _. found ≡ Ok (heads_shapes known.new.heads.items)) (IsFoundFault found) }
 {
     for i in 0..functions.len() {
         let head = head_of(alloc, known, &functions[i])?;
@@ -43,7 +43,7 @@ pub(crate) fn add_heads(
 fn head_of(alloc: Global, known: &mut Known, function: &Function) -> Result<Head, ShapeStop>
     requires low { IsLow (function_tree function.now) }
     ensures found { let found = known_function_found known.old (function_tree function.now) in MatchResult result
-        (λ head. found ≡ Ok (head_shapes head)) (StopsAs found) }
+        (λ head. found ≡ Ok (head_shapes head)) (IsFoundFault found) }
     ensures records { IfOk result (λ _. known.new.records.items ≡ known.old.records.items) }
     ensures heads { IfOk result (λ _. known.new.heads.items ≡ known.old.heads.items) }
 {
@@ -58,7 +58,7 @@ fn head_of(alloc: Global, known: &mut Known, function: &Function) -> Result<Head
     Ok(Head { params, result })
 }
 
-/// The shape of the body, or its first fault, where the parameters have these shapes.
+/// The shape of the body, or its first fault, if the parameters have these shapes.
 fn body_shape(
     alloc: Global,
     known: &mut Known,
@@ -76,10 +76,10 @@ fn body_shape(
 {
     let mut scope = copied(alloc, params)?;
     match own_head(alloc, params, function)? {
-        None => shape_of(alloc, known, &mut scope, &function.body),
+        None => shape_of(&Body { alloc, known }, &mut scope, &function.body),
         Some(own) => {
             known.heads.push(own)?;
-            let shape = shape_of(alloc, known, &mut scope, &function.body)?;
+            let shape = shape_of(&Body { alloc, known }, &mut scope, &function.body)?;
             known.heads.pop();
             Ok(shape)
         }
@@ -109,7 +109,7 @@ fn own_head(
     }
 }
 
-/// Whether the shape is that of the result's note, where one is written.
+/// Whether the shape is that of the result's note, if one is written.
 fn fits_result(note: &Option<Note>, shape: FlatShape) -> bool
     requires low { HasLowResult (result_tree note.now) }
     ensures { result ≡ fits_result (result_tree note.now) (flat_shape shape) }

@@ -9,7 +9,7 @@ ghost use Rattle.um_shape.specs.LowNotes.{HasLowFields};
 ghost use Rattle.um_shape.specs.RecordShapes.{tallest};
 ghost use Rattle.um_shape.specs.FirstFault.{record_found, records_found};
 ghost use Rattle.um_shape.specs.FlatShapes.{flat_shapes, known_record, known_records};
-ghost use Rattle.um_shape.specs.Stops.{StopsAs};
+ghost use Rattle.um_shape.specs.Stops.{IsFoundFault};
 
 use crate::ShapeStop;
 use crate::flat::FlatShape;
@@ -26,7 +26,7 @@ pub(crate) fn known_records(
 ) -> Result<Vec<KnownRecord>, ShapeStop>
     requires low { All (λ r. HasLowFields (record_tree r)) records.now }
     ensures { let found = records_found [] (map record_tree records.now) in MatchResult result
-        (λ known. found ≡ Ok (known_records known.items)) (StopsAs found) }
+        (λ known. found ≡ Ok (known_records known.items)) (IsFoundFault found) }
 {
     let mut known = Vec::new(alloc);
     for i in 0..records.len() {
@@ -43,7 +43,7 @@ fn known_record(
 ) -> Result<KnownRecord, ShapeStop>
     requires low { HasLowFields (record_tree declared.now) }
     ensures { let found = record_found (known_records earlier.now) (record_tree declared.now) in MatchResult result
-        (λ r. found ≡ Ok (known_record r)) (StopsAs found) }
+        (λ r. found ≡ Ok (known_record r)) (IsFoundFault found) }
 {
     let fields = field_shapes(alloc, &declared.fields.items)?;
     let top = tallest(earlier, &fields);

@@ -1,11 +1,10 @@
-//! The shape of a node from those of its parts, where its rule gives one.
+//! The shape of a node from those of its parts, if its rule gives one.
 ghost use Rattle.std.specs.Prelude.{◌≡◌};
 ghost use Rattle.std.specs.Option.{option_map};
 ghost use Rattle.um_shape.specs.FirstFault.{same_shape, where_true, of_numbers, of_truths, of_arms, of_condition};
 ghost use Rattle.um_shape.specs.FirstFault.{of_list, of_head, item_of};
 ghost use Rattle.um_shape.specs.FlatShapes.{flat_shape, of_pair};
 ghost use Rattle.um_shape.specs.Stops.{IsFound};
-ghost use Rattle.um_tree.specs.TypeTree.{bool_shape};
 
 use crate::ShapeStop;
 use crate::flat::FlatShape;
@@ -21,7 +20,7 @@ pub(crate) enum PairRule {
     HeadAndTail,
 }
 
-/// The shape of the whole, where the two parts have the shapes that the rule asks for.
+/// The shape of the whole, if the two parts have the shapes that the rule asks for.
 pub(crate) fn of_pair(rule: PairRule, a: FlatShape, b: FlatShape) -> Option<FlatShape>
     ensures { option_map flat_shape result ≡ of_pair rule (flat_shape a) (flat_shape b) }
 {
@@ -32,7 +31,7 @@ pub(crate) fn of_pair(rule: PairRule, a: FlatShape, b: FlatShape) -> Option<Flat
     }
 }
 
-/// The shape itself, where a part of this shape is asked for.
+/// The shape itself, if a part of this shape is asked for.
 pub(crate) fn itself(part: FlatShape, asked: FlatShape) -> Option<FlatShape>
     ensures { option_map flat_shape result
         ≡ where_true (same_shape (flat_shape part) (flat_shape asked)) (flat_shape asked) }
@@ -40,7 +39,7 @@ pub(crate) fn itself(part: FlatShape, asked: FlatShape) -> Option<FlatShape>
     part.same(asked).then_some(asked)
 }
 
-/// The whole, where both parts are numbers.
+/// The whole, if both parts are numbers.
 fn of_numbers(a: FlatShape, b: FlatShape, whole: FlatShape) -> Option<FlatShape>
     ensures { option_map flat_shape result ≡ of_numbers (flat_shape a) (flat_shape b) (flat_shape whole) }
 {
@@ -48,7 +47,7 @@ fn of_numbers(a: FlatShape, b: FlatShape, whole: FlatShape) -> Option<FlatShape>
     (a.same(number) && b.same(number)).then_some(whole)
 }
 
-/// A truth value, where both parts are truth values.
+/// A truth value, if both parts are truth values.
 fn of_truths(a: FlatShape, b: FlatShape) -> Option<FlatShape>
     ensures { option_map flat_shape result ≡ of_truths (flat_shape a) (flat_shape b) }
 {
@@ -63,21 +62,21 @@ pub(crate) fn of_arms(a: FlatShape, b: FlatShape) -> Option<FlatShape>
     b.same(a).then_some(a)
 }
 
-/// The shape of both arms, where the condition is a truth value.
+/// The shape of both arms, if the condition is a truth value.
 pub(crate) fn of_condition(c: FlatShape, a: FlatShape, b: FlatShape) -> Option<FlatShape>
     ensures { option_map flat_shape result ≡ of_condition (flat_shape c) (flat_shape a) (flat_shape b) }
 {
     (c.same(FlatShape::truth()) && b.same(a)).then_some(a)
 }
 
-/// The shape itself, where it is a list.
+/// The shape itself, if it is a list.
 pub(crate) fn of_list(shape: FlatShape) -> Option<FlatShape>
     ensures { option_map flat_shape result ≡ of_list (flat_shape shape) }
 {
     (shape.lists > 0).then_some(shape)
 }
 
-/// The tail's shape, where it is a list of such heads.
+/// The tail's shape, if it is a list of such heads.
 fn of_head(head: FlatShape, tail: FlatShape) -> Option<FlatShape>
     ensures { option_map flat_shape result ≡ of_head (flat_shape head) (flat_shape tail) }
 {

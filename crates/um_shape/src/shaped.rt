@@ -31,14 +31,14 @@ impl Model for Shaped {
 }
 
 impl Shaped {
-    ghost use Rattle.std.specs.Prelude.{◌≡◌, ◌<◌, length, Ok, None};
+    ghost use Rattle.std.specs.Prelude.{◌≡◌, ◌<◌, length, map, Ok, None};
     ghost use Rattle.um_tree.specs.TypeTree.{shape_tree};
     ghost use Rattle.um_tree.specs.ProgramTree.{program_tree};
     ghost use Rattle.um_tree.specs.Formed.{IsFormed};
     ghost use Rattle.um_tree.specs.Shapes.{IsShaped};
     ghost use Rattle.um_shape.specs.Signatures.{signatures_shapes};
     ghost use Rattle.um_shape.specs.FirstFault.{program_found, first_fault};
-    ghost use Rattle.um_shape.specs.ShapedProgram.{HasParam, IsParamShape, IsResultShape, IsLowShape};
+    ghost use Rattle.um_shape.specs.ShapedProgram.{HasParam, IsParamShape, AreParamShapes, IsResultShape, IsLowShape};
 
     /// The program with the shapes that were found of its functions.
     pub(crate) fn new(program: Program, signatures: Vec<Signature>) -> Shaped
@@ -69,6 +69,14 @@ impl Shaped {
         ensures low { IsLowShape (program_tree self.now) (shape_tree result.now) }
     {
         &self.signatures[f as usize].params[k as usize]
+    }
+
+    /// The shapes of the parameters of function `f`, in order. Takes no memory.
+    pub fn param_shapes(&self, f: u32) -> &[Shape]
+        requires function { f < length (program_tree self.now).functions }
+        ensures shapes { AreParamShapes (program_tree self.now) f (map shape_tree result.now) }
+    {
+        &self.signatures[f as usize].params
     }
 
     /// The shape of the result of function `f`, which is that of its body. Takes no memory.

@@ -4,7 +4,7 @@ use Rattle.std.specs.List.{flat_map, join_by}
 use Rattle.um_syntax.specs.declared.token.Token.{Token}
 use Rattle.um_tree.specs.RawTree.{TypeSyntax, ExprSyntax, VarSyntax, FieldDeclSyntax, ParamSyntax, FunctionSyntax, DeclSyntax, base_syntax, short_syntax, record_decl_syntax, function_syntax}
 use Rattle.um_types.specs.TypeGrammar.{TypeFits}
-use Rattle.um_expr.specs.ExprTokens.{expr_token}
+use Rattle.um_forms.specs.ExprTokens.{expr_token}
 use Rattle.um_parse.specs.DeclGrammar.{Attribute, VarSpells, MoreVars, VarsSpell, FieldDeclSpells, MoreFieldDecls, FieldDeclsSpell, ParamSpells, ParamsSpell, ResultSpells, RecSpells, DeclSpells, DeclsSpell, FieldDeclsFit, ParamsFit, ResultFits, DeclFits, DeclsFit, IsProgram}
 use Rattle.um_show.specs.Pieces.{Piece, space, line_end, name, variable, less, greater, equal, comma, semi, colon, let_word, type_word, measure_word, attribute_open, list_close, bracket_open, bracket_close, record_open, record_close}
 use Rattle.um_show.specs.Layout.{unit_pieces, type_pieces, binder_piece, expr_pieces, var_pieces, var_list_pieces, field_decl_pieces, param_pieces, result_pieces, rec_pieces, function_pieces, decl_pieces, line_pieces, program_pieces}

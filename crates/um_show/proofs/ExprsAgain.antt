@@ -9,7 +9,7 @@ use Rattle.um_tree.specs.RawTree.{NoteSyntax, BinderSyntax, ExprSyntax, ExprSynt
 use Rattle.um_types.specs.UnitMachine.{power_in}
 use Rattle.um_operands.specs.declared.infix.Infix.TheVariants as between_of
 use Rattle.um_operands.specs.Ranks.{arith_rank}
-use Rattle.um_expr.specs.ExprTokens.{expr_token}
+use Rattle.um_forms.specs.ExprTokens.{expr_token}
 use Rattle.um_expr.specs.ExprGrammar.{BinderSpells, InfixAt, WrittenNote, PowerSpells, Spells, AllSpell, MoreItems, MoreFields, NoteFitsIn, IsAny, Fits, AreAtoms, AllFit, FieldsFit, rank}
 use Rattle.um_show.specs.Pieces.{Piece, space, name, digits, less, greater, equal, at_most, unequal, plus, minus, times, over, double_and, double_bar, double_colon, true_word, false_word, if_word, then_word, else_word, let_word, in_word, match_word, with_word, not_word, pown_word, bar, arrow, dot, semi, colon, bracket_open, bracket_close, list_open, list_close, record_open, record_close}
 use Rattle.um_show.specs.Layout.{written_pieces, type_pieces, note_pieces, bound_piece, binder_piece, truth_piece, arith_piece, compare_pieces, whole_power_pieces, between, expr_pieces, argument_pieces, item_pieces, more_item_pieces, field_pieces, more_field_pieces}

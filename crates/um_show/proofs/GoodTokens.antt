@@ -22,9 +22,9 @@ use Rattle.um_syntax.specs.declared.vocabulary.Keyword.{Keyword}
 use Rattle.um_syntax.specs.declared.vocabulary.Keyword.TheVariants as keyword
 use Rattle.um_syntax.specs.declared.vocabulary.Symbol.{Symbol}
 use Rattle.um_syntax.specs.declared.vocabulary.Symbol.TheVariants as symbol
-use Rattle.um_expr.specs.declared.token.ExprToken.{ExprToken}
-use Rattle.um_expr.specs.declared.token.ExprToken.TheVariants.{Name as name, Variable as variable, Number as number, Truth as truth, Hole as hole, Operator as operator, Word as word, Mark as mark}
-use Rattle.um_expr.specs.ExprTokens.{expr_token, keyword_token, symbol_token}
+use Rattle.um_forms.specs.declared.token.ExprToken.{ExprToken}
+use Rattle.um_forms.specs.declared.token.ExprToken.TheVariants.{Name as name, Variable as variable, Number as number, Truth as truth, Hole as hole, Operator as operator, Word as word, Mark as mark}
+use Rattle.um_forms.specs.ExprTokens.{expr_token, keyword_token, symbol_token}
 use Rattle.um_show.proofs.Chain.{IsGoodName}
 
 -- a number that isn't negative

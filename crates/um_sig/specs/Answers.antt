@@ -18,7 +18,7 @@ IsMatching m (Err (stop.Units i)) = m ≡ unmatched i
 IsMatching m (Err (stop.Range i)) = m ≡ out_of_range i
 IsMatching m (Err stop.NoMemory) = Unit {0}
 
--- forms come first: the index of their first difference, and else what the matching ends with
+-- forms come first: the index of their first difference, and otherwise what the matching ends with
 abbrev pub IsConformed : ℕ → SchemeTree → List TypeTree → Result (Unit {0}) SigStop → Type 0
 IsConformed bases s types (Err (stop.Form i)) = IsFirstDifference (scheme_types s) types i
 IsConformed bases s types (Err stop.NoMemory) = Unit {0}
@@ -35,9 +35,9 @@ SaysOfInstances bases own types (Err (stop.Range i)) = Unit {0}
 SaysOfInstances bases own types (Err stop.NoMemory) = Unit {0}
 
 -- and of the typings of function i, whose scheme it is
-abbrev pub SaysOfTypings : ProgramTree → ℕ → List TypeTree → Result (Unit {0}) SigStop → Type 0
-SaysOfTypings p i types (Ok _) = AreAllTypings p i types
-SaysOfTypings p i types (Err (stop.Form k)) = AreAllTypings p i types → ⊥
-SaysOfTypings p i types (Err (stop.Units k)) = AreAllTypings p i types → ⊥
-SaysOfTypings p i types (Err (stop.Range k)) = Unit {0}
-SaysOfTypings p i types (Err stop.NoMemory) = Unit {0}
+abbrev pub SaysOfAllTypings : ProgramTree → ℕ → List TypeTree → Result (Unit {0}) SigStop → Type 0
+SaysOfAllTypings p i types (Ok _) = AreAllTypings p i types
+SaysOfAllTypings p i types (Err (stop.Form k)) = AreAllTypings p i types → ⊥
+SaysOfAllTypings p i types (Err (stop.Units k)) = AreAllTypings p i types → ⊥
+SaysOfAllTypings p i types (Err (stop.Range k)) = Unit {0}
+SaysOfAllTypings p i types (Err stop.NoMemory) = Unit {0}

@@ -1,5 +1,5 @@
 -- The form of a type, and where two lists of types first differ in form.
--- Source: this project's own: a signature may be used for a function only where both have the same types but for units.
+-- Source: this project's own: a signature may be used for a function only if both have the same types but for units.
 use Rattle.std.specs.Prelude.{◌≡◌, ◌≢◌, ◌<◌, ℕ, List, map, Option, slice_get}
 use Rattle.um_units.specs.PowerMap.{one}
 use Rattle.um_tree.specs.TypeTree.{TypeTree}

@@ -1,5 +1,5 @@
 -- The instances of a signature: when a scheme has them all, and when they all are typings of a function.
--- Source: Kennedy (1996): a scheme is at least as general as another where it has all its instances.
+-- Source: Kennedy (1996): a scheme is at least as general as another if it has all its instances.
 use Rattle.std.specs.Prelude.{◌≡◌, ◌+◌, ℕ, All, List, map, take}
 use Rattle.um_tree.specs.TypeTree.{TypeTree}
 use Rattle.um_tree.specs.ProgramTree.{ProgramTree, Signature, SchemeTree}

@@ -12,14 +12,14 @@ use Rattle.um_sig.specs.declared.stop.SigText.TheVariants as text_stop
 use Rattle.um_sig.specs.declared.stop.SigStop.{SigStop}
 use Rattle.um_sig.specs.declared.stop.SigStop.TheVariants as stop
 use Rattle.um_sig.specs.Instances.{scheme_types, AreOverBases}
-use Rattle.um_sig.specs.Answers.{IsConformed, SaysOfInstances, SaysOfTypings}
+use Rattle.um_sig.specs.Answers.{IsConformed, SaysOfInstances, SaysOfAllTypings}
 use Rattle.um_sig.specs.Reading.{signature_types_of, IsRead}
 
 -- the scheme is over its own variables alone
 abbrev pub IsOverItsVariables : SchemeTree → Type 0
 IsOverItsVariables s = All (λ k. k < s.vars) (variables (scheme_types s))
 
--- a signature is accepted exactly where the scheme has all its instances, unless the range is met: where the answer is
+-- a signature is accepted exactly if the scheme has all its instances, unless the range is met: where the answer is
 -- this, that is so
 abbrev pub AnswersSayWhatInstancesAre : Type 0
 AnswersSayWhatInstancesAre =
@@ -27,13 +27,13 @@ AnswersSayWhatInstancesAre =
     IsOverItsVariables s → AreOverBases bases (scheme_types s) → AreOverBases bases types →
     IsConformed bases s types r → SaysOfInstances bases (scheme_types s) types r
 
--- and exactly where all its instances are typings of the function, whose scheme this is in a formed program. What base
+-- and exactly if all its instances are typings of the function, whose scheme this is in a formed program. What base
 -- units the scheme itself holds doesn't matter then
 abbrev pub AnswersSayWhatTypingsAre : Type 0
 AnswersSayWhatTypingsAre =
     (p : ProgramTree) (i : ℕ) (s : SchemeTree) (types : List TypeTree) (r : Result (Unit {0}) SigStop) →
     IsFormed p → IsPrincipal p i s → AreOverBases (length p.bases) types →
-    IsConformed (length p.bases) s types r → SaysOfTypings p i types r
+    IsConformed (length p.bases) s types r → SaysOfAllTypings p i types r
 
 -- types over declared base units, so many variables and declared records meet what is asked of a signature
 abbrev pub FormedSignaturesAreOverTheirVariables : Type 0

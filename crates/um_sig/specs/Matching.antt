@@ -1,7 +1,7 @@
 -- The matching of a scheme's types with a signature's: equations of units, one for each unit, that are solved one after
 -- another.
 -- Source: Kennedy (1996): one type is an instance of another where the two unify with the variables of the first taken
--- for constants. That a constant is a base unit behind the declared ones, and that powers are refused outside a range,
+-- for constants. That a constant is a base unit after the declared ones, and that powers are refused outside a range,
 -- are this project's own.
 use Rattle.std.specs.Prelude.{ℕ, suc, if◌then◌else◌, List, [], ◌∷◌, ◌++◌}
 use Rattle.um_units.specs.PowerMap.{PowerMap, mul, inv, replace}
@@ -48,13 +48,13 @@ module _ (bases : ℕ) where
 abbrev pub eliminate_row : List PowerMap → PowerMap → Elimination
 eliminate_row us row = if fits row then eliminate us row else Range
 
--- row after row: the first that has no solution with those before it, or passes the range, is the outcome
+-- row after row: the first that has no solution with those before it, or leaves the range, is the outcome
 abbrev pub eliminate_each : List PowerMap → List PowerMap → Elimination
 eliminate_each us [] = Solved us
 eliminate_each us (row ∷ rows) = on_solved (eliminate_row us row) (λ vs. eliminate_each vs rows)
 
 -- what the rows end with: units for the scheme's variables; or the index, counted from 0, of the type that has the
--- first row without a solution, or the first that passes the range
+-- first row without a solution, or the first that leaves the range
 pub data Matching : Type 0 where
   matched : List PowerMap → Matching
   unmatched : ℕ → Matching

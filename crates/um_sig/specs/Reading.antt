@@ -1,6 +1,6 @@
 -- What reading a signature text answers.
 -- Source: this project's own. A text is its list of characters, and places are byte offsets. Each fault is looked for
--- only where none before it is found; want of memory may come in place of every answer.
+-- only if none before it is found; want of memory may come in place of every answer.
 use Rattle.std.specs.Prelude.{◌≡◌, ◌≤◌, ◌⊎◌, ℕ, All, List, length, Result, Ok, Err}
 use Rattle.um_syntax.specs.declared.token.Token.{Token}
 use Rattle.um_syntax.specs.declared.token.LexStop.TheVariants.{BadChar, NumberRange, PowerText}

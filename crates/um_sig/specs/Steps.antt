@@ -44,7 +44,7 @@ fixed_atom bases (Var k) = Base (bases + k)
 abbrev pub inverse_term : ℕ → Term → Term
 inverse_term bases t = scale (negsuc 0) (record { atom = fixed_atom bases t.atom; power = t.power })
 
--- each variable has room behind the base units
+-- each variable has room after the base units
 abbrev pub HasRoom : ℕ → Atom → Type 0
 HasRoom bases (Base n) = Unit {0}
 HasRoom bases (Var k) = bases + k < 2 ^ 32

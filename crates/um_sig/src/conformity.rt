@@ -1,6 +1,6 @@
 //! Whether a function may be used at a signature.
 
-ghost use Rattle.std.specs.Prelude.{◌≡◌, ◌+◌, ◌<◌, ◌≤◌, All, length, map};
+ghost use Rattle.std.specs.Prelude.{◌+◌, ◌<◌, ◌≤◌, All, length, map};
 ghost use Rattle.um_tree.specs.ProgramTree.{scheme_tree};
 ghost use Rattle.um_tree.specs.TypeTree.{type_tree, type_trees};
 ghost use Rattle.um_tree.specs.Scheme.{variables};
@@ -37,22 +37,22 @@ fn match_types(alloc: Global, scheme: &Scheme, types: &[Ty], bases: u32) -> Resu
     Ok(())
 }
 
-/// Whether a function with this scheme may be used at the signature: Ok exactly where each instance of the signature is
-/// an instance of the scheme and no power passes the range on the way.
+/// Whether a function with this scheme may be used at the signature: Ok exactly if each instance of the signature is
+/// an instance of the scheme and no power leaves the range on the way.
 ///
 /// The scheme's variables are below its `vars`, which is at most 2,000, and the signature's below its own. `bases` is
-/// the number of declared base units; behind them each of the signature's variables is taken for a base unit of its
+/// the number of declared base units; after them each of the signature's variables is taken for a base unit of its
 /// own. The types are matched from left to right, the result's last, and each from left to right unit by unit (Kennedy,
 /// Programming Languages and Dimensions, 1996: matching in the free abelian group; the order and the range are this
 /// project's own).
 ///
 /// # Errors
 ///
-/// - `Form` at the first index where one of scheme and signature has a type and the other none, or the two types differ
-///   in more than their units.
-/// - Else at the first unit that stops: `Range` where a power passes the range while its equation is formed and solved,
-///   and `Units` where no units in place of the scheme's variables make all units up to it equal. The index is that of
-///   its type.
+/// - `Form` at the first index at which only one of scheme and signature has a type, or the two types differ in more
+///   than their units.
+/// - Otherwise at the first unit that stops: `Range` if a power leaves the range while its equation is formed and
+///   solved, and `Units` if no units in place of the scheme's variables make all units up to it equal. The index is
+///   that of its type.
 /// - `NoMemory` may come with any arguments.
 pub fn conform(
     alloc: Global,

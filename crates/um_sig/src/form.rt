@@ -9,7 +9,7 @@ ghost use Rattle.um_sig.specs.Steps.{same_form as have_same_form, same_form_at, 
 use um_tree::{Scheme, Ty};
 use um_units::Units;
 
-/// The scheme's type at an index: a parameter's, or behind all parameters the result's.
+/// The scheme's type at an index: a parameter's, or after all parameters the result's.
 pub(crate) fn own_type(scheme: &Scheme, i: usize) -> &Ty
     requires { i ≤ length scheme.now.params.items.items }
     ensures { slice_get (scheme_types (scheme_tree scheme.now)) i ≡ Some (type_tree result.now) }

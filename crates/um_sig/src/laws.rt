@@ -1,15 +1,16 @@
-//! The laws of reading and matching, as contracts of functions that do nothing. A crate above cites the law that it needs.
+//! The laws of reading and matching, as contracts of functions that do nothing. A crate above cites the law that it
+//! needs.
 ghost use Rattle.um_sig.specs.Laws.{AnswersSayWhatInstancesAre, AnswersSayWhatTypingsAre, AnswersAreUnique};
 ghost use Rattle.um_sig.specs.Laws.{FormedSignaturesAreOverTheirVariables, ReadingsAreUnique};
 
-/// Where a signature is accepted its instances are all instances of the scheme. Where it is refused for its form or its
+/// If a signature is accepted, its instances are all instances of the scheme. If it is refused for its form or its
 /// units they aren't, and units match the types before the index that is named, but none match those through it.
 pub fn instances()
     ensures { AnswersSayWhatInstancesAre }
 {}
 
-/// Where a signature is accepted for a function's scheme in a formed program its instances are all typings of the
-/// function. Where it is refused for its form or its units they aren't.
+/// If a signature is accepted for a function's scheme in a formed program, its instances are all typings of the
+/// function. If it is refused for its form or its units, they aren't.
 pub fn typings()
     ensures { AnswersSayWhatTypingsAre }
 {}
@@ -19,12 +20,12 @@ pub fn signatures()
     ensures { FormedSignaturesAreOverTheirVariables }
 {}
 
-/// There is one answer of [`crate::conform`], unless memory is wanting.
+/// There is one answer of [`crate::conform`], unless memory runs out.
 pub fn answers()
     ensures { AnswersAreUnique }
 {}
 
-/// There is one answer of [`crate::read_signature`] to a text, unless memory is wanting.
+/// There is one answer of [`crate::read_signature`] to a text, unless memory runs out.
 pub fn readings()
     ensures { ReadingsAreUnique }
 {}

@@ -1,6 +1,6 @@
 //! Signatures: types that a function is held to, as they are written, and whether a function may be used at them.
 //!
-//! A signature conforms to a function's scheme where each of its instances is an instance of the scheme, and so, since
+//! A signature conforms to a function's scheme if each of its instances is an instance of the scheme, and so, since
 //! a function's scheme has exactly its typings as instances, a typing of the function (Kennedy, Programming Languages
 //! and Dimensions, 1996). Its variables are units of their own while it is matched. The grammar of signature texts, the
 //! order of the refusals and the range of powers are this project's own.

@@ -72,7 +72,7 @@ fn named(
 /// The signature of a text: types with `->` between two of them, the result's last, as in `num<'a> -> num<m> -> bool`.
 ///
 /// Measures and records are those of the program and the abbreviations. Each unit variable is known, and variables are
-/// numbered by first occurrence. Where the units of the abbreviations are closed, the types are over the declared base
+/// numbered by first occurrence. If the units of the abbreviations are closed, the types are over the declared base
 /// units, these variables and the declared records.
 ///
 /// # Errors

@@ -45,7 +45,7 @@ fn row_terms(
 
 /// The scheme's unit over the signature's, in which variable k is the base unit `bases + k`.
 ///
-/// Range comes exactly where a power of the quotient is out of range.
+/// Range comes exactly if a power of the quotient is out of range.
 pub(crate) fn unit_row(
     alloc: Global,
     bases: u32,

@@ -3,10 +3,10 @@
 use std::alloc::AllocError;
 use thiserror::Error;
 
-/// Why a text is no signature. A place is a byte offset in the text.
+/// Why a text isn't a signature. A place is a byte offset in the text.
 #[derive(Clone, Copy, Debug, PartialEq, Eq, Error)]
 pub enum SigText {
-    /// A character where no token stands, or a number or a power that breaks its rule.
+    /// A character at which no token stands, or a number or a power that breaks its rule.
     #[error("text at {at}")]
     Text { at: u32 },
     /// No signature text begins so.

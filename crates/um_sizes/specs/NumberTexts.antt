@@ -12,7 +12,7 @@ use Rattle.um_sizes.specs.Parts.{cut}
 abbrev pub are_digits : List ℕ → Bool
 are_digits ds = nat_lt 0 (length ds) && list_all is_ascii_digit ds
 
--- the parts of a number's text, by its first point, or else by its first r
+-- the parts of a number's text, by its first point, or otherwise by its first r
 abbrev pub over_or_whole : List ℕ → Option (List ℕ × List ℕ) → Numeral
 over_or_whole text None = Whole text
 over_or_whole text (Some parts) = Ratio parts.0 parts.1
@@ -30,13 +30,13 @@ is_numeral (Whole digits) = are_digits digits
 is_numeral (Decimal whole part) = are_digits whole && are_digits part
 is_numeral (Ratio above below) = are_digits above && are_digits below
 
--- the value of a number's text, where it is one and has at most 38 digits and a value in range
+-- the value of a number's text, if it is one and has at most 38 digits and a value in range
 abbrev pub value_in : Numeral → Option Frac
 value_in n = cond (is_numeral n) (ordinary_value n) None
 
 abbrev pub number_in : List ℕ → Option Frac
 number_in text = value_in (numeral_in text)
 
--- the number, where it is above 0
+-- the number, if it is above 0
 abbrev pub positive : Frac → Option Frac
 positive c = cond (int_le (pos 1) (numerator c)) (Some c) None

@@ -1,4 +1,4 @@
--- Sizes of base units as one word: NAME=NUMBER, more of these behind commas.
+-- Sizes of base units as one word: NAME=NUMBER, more of these after commas.
 -- Source: this project's own.
 use Rattle.std.specs.Prelude.{ℕ, Bool, true, not, ◌&&◌, cond, List, [], ◌∷◌, map, Option, Some, None, is_some}
 use Rattle.std.specs.Option.{option_and_then, option_map}
@@ -21,7 +21,7 @@ round_equal (Some sides) = name_and_number sides.0 sides.1
 abbrev pub size_in : List ℕ → Option (List ℕ × Frac)
 size_in part = round_equal (cut 61 part)
 
--- each part in order, where each is such a size
+-- each part in order, if each is such a size
 abbrev pub sizes_in : List (List ℕ) → Option (List (List ℕ × Frac))
 sizes_in [] = Some []
 sizes_in (part ∷ parts) = option_and_then (λ s. option_map (λ ss. s ∷ ss) (sizes_in parts)) (size_in part)
@@ -34,7 +34,7 @@ are_once (x ∷ xs) = not (is_among xs x) && are_once xs
 abbrev pub names_of : List (List ℕ × Frac) → List (List ℕ)
 names_of sizes = map (λ s. s.0) sizes
 
--- the sizes that the word states, in order, where it is such a word and each name stands once
+-- the sizes that the word states, in order, if it is such a word and each name stands once
 unfoldable pub scales_in : List ℕ → Option (List (List ℕ × Frac))
 scales_in word = option_and_then (λ ss. cond (are_once (names_of ss)) (Some ss) None) (sizes_in (parts_of word))
 

@@ -77,7 +77,7 @@ fn are_many(first: &str, second: &str) -> bool
     first.len() > MOST_DIGITS || second.len() > MOST_DIGITS - first.len()
 }
 
-/// The number that the text writes, where it is one digit or more.
+/// The number that the text writes, if it is one digit or more.
 fn digits_value(digits: &str) -> Option<u128>
     requires { length digits.now ≤ 38 }
     ensures value { result ≡ cond (are_digits digits.now) (Some (value_of digits.now)) None }

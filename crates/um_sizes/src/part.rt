@@ -10,7 +10,7 @@ use crate::named::is_name;
 use crate::number::number_in;
 use um_frac::Frac;
 
-/// The name and the number of a part, where its number is above 0. Takes no memory.
+/// The name and the number of a part, if its number is above 0. Takes no memory.
 pub fn size_in(part: &str) -> Option<(&str, Frac)>
     ensures value { option_map (λ size. (size.0.now, size.1)) result ≡ size_in part.now }
     ensures positive { IfSome result (λ size. pos 1 ≤ℤ numerator size.1) }

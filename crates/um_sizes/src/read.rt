@@ -1,5 +1,5 @@
 //! The sizes of a program's base units.
-ghost use Rattle.std.specs.Prelude.{◌≡◌, ◌++◌, [], IfOk, IsTrue, None, OnOk, Some, cond, length};
+ghost use Rattle.std.specs.Prelude.{◌≡◌, [], IsTrue, None, OnOk, Some, cond, length};
 ghost use Rattle.um_tree.specs.Formed.{AreDistinct, IsFormed};
 ghost use Rattle.um_tree.specs.ProgramTree.{program_tree};
 ghost use Rattle.um_sizes.specs.BaseSizes.{AreScalesRead};
@@ -36,7 +36,7 @@ impl From<AllocError> for ScalesRefusal {
 
 /// The sizes that the word states of the program's base units; one that isn't named keeps the size 1.
 ///
-/// The word states sizes, as [`crate::is_scales`] says. `NoBaseUnit` exactly where a name is that of no base unit, as
+/// The word states sizes, as [`crate::is_scales`] says. `NoBaseUnit` exactly if a name is that of no base unit, as
 /// that of an abbreviation is none.
 ///
 /// It takes time linear in the word and in the base units.

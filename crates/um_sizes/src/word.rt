@@ -1,5 +1,5 @@
 //! Sizes as one word.
-ghost use Rattle.std.specs.Prelude.{◌≡◌, IfOk, Some, None, [], cond, is_some};
+ghost use Rattle.std.specs.Prelude.{◌≡◌, IfOk, Some, None, cond, is_some};
 ghost use Rattle.um_sizes.specs.Parts.{parts_of};
 ghost use Rattle.um_sizes.specs.ScaleWords.{is_scales};
 ghost use Rattle.um_sizes.specs.Adding.{name_after, names_after};
@@ -9,7 +9,7 @@ use crate::part::size_in;
 use std::alloc::{AllocError, Global};
 use um_measures::NameTable;
 
-/// Whether the word states sizes of base units: `NAME=NUMBER`, and more of these behind commas, without spaces.
+/// Whether the word states sizes of base units: `NAME=NUMBER`, and more of these after commas, without spaces.
 ///
 /// Each name is a name of the language and stands once. Each number is written as in a program, has a value in the
 /// range of numbers, and is above 0. It takes time linear in the word. Want of memory is its one error.

@@ -120,7 +120,7 @@ HasField p r k = (d : RecordTree) × (slice_get p.records r ≡ Some d) × (k < 
 
 module _ (p : ProgramTree) (i : ℕ) (f : FunctionTree) where
   abbrev mutual
-    -- the names of the expression exist, where so many variables stand in the scope
+    -- the names of the expression exist, when so many variables stand in the scope
     pub IsFormedIn : ℕ → ExprTree → Type 0
     IsFormedIn n (truth at b) = Unit {0}
     IsFormedIn n (number at c note) = IsLiteral (length p.bases) c note

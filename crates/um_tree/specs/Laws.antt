@@ -153,7 +153,7 @@ ReplacementsKeepTypings =
     Typing p i g → Typing p i (put_signature units g)
 
 -- and under each homomorphism that leaves the base units of the notes and fields up to the function, and the units of
--- its literals, where what is written are units over declared base units
+-- its literals, whose written units are over declared base units
 abbrev pub HomomorphismsKeepTypings : Type 0
 HomomorphismsKeepTypings =
     (p : ProgramTree) (i : ℕ) (g : Signature) (h : PowerMap → PowerMap) →
@@ -174,7 +174,7 @@ abbrev pub TypedIn :
     ProgramTree → ℕ → FunctionTree → Signature → (ℕ → PowerMap) → List TypeTree → ExprTree → TypeTree → Type 0
 TypedIn p i f self choice vars e t = Typed p.records (Calls (typings_below p i) i f self) choice vars e t
 
--- in no body a sum or a difference is typed but where both sides have one unit, and it has this unit
+-- in a body, a sum or a difference is typed only if both sides have one unit, and it has this unit
 abbrev pub HasOneUnit : Arith → Type 0
 HasOneUnit op =
     (p : ProgramTree) (i : ℕ) (f : FunctionTree) (self : Signature) (choice : ℕ → PowerMap) (vars : List TypeTree) →

@@ -97,7 +97,7 @@ abbrev pub found : Option ValueTree → ℕ → Out ValueTree
 found None b = stops wrong
 found (Some v) b = gives v b
 
--- the first arm where the value is true, the second where it is false
+-- the first arm where the value is true, the second if it is false
 abbrev pub choose : ValueTree → (ℕ → Out ValueTree) → (ℕ → Out ValueTree) → ℕ → Out ValueTree
 choose (truth_value true) x y b = x b
 choose (truth_value false) x y b = y b
@@ -150,7 +150,7 @@ module _ (calling : Calling) where
     all_mean (more e es) vars b =
         then (means e vars b) (λ v c. then (all_mean es vars c) (λ vs d. gives (v ∷ vs) d))
 
--- a call costs one, and ends the run where nothing is left
+-- a call costs one, and ends the run if nothing is left
 abbrev pub spend : ℕ → (ℕ → Out ValueTree) → Out ValueTree
 spend zero go = stops budget_end
 spend (suc b) go = go b
@@ -161,7 +161,7 @@ body_means calling None vs b = stops wrong
 body_means calling (Some f) vs b =
     cond (nat_eq (length vs) (length f.params)) (spend b (means calling f.body vs)) (stops wrong)
 
--- calls, where at most n of them stand inside one another
+-- calls, at most n of them inside one another
 abbrev pub running : List FunctionTree → ℕ → Calling
 running fs zero j vs b = stops wrong
 running fs (suc n) j vs b = body_means (running fs n) (slice_get fs j) vs b
@@ -177,7 +177,7 @@ AllMean fs vars es b = all_mean (running fs (suc b)) es vars b
 unfoldable pub Outcome : List FunctionTree → ℕ → List ValueTree → ℕ → Out ValueTree
 Outcome fs j vs b = running fs (suc b) j vs b
 
--- how the call ends; nothing where a shape is wrong
+-- how the call ends; nothing if a shape is wrong
 abbrev pub end_of : Out ValueTree → Option OutcomeTree
 end_of (gives v b) = Some (value_outcome v)
 end_of (stops (trap t)) = Some (trap_outcome t)

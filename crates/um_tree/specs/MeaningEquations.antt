@@ -86,7 +86,7 @@ pub record MeansByNode (fs : List FunctionTree) (vars : List ValueTree) (b : ℕ
 abbrev pub EquationsOfMeaning : Type 0
 EquationsOfMeaning = (fs : List FunctionTree) (vars : List ValueTree) (b : ℕ) → MeansByNode fs vars b
 
--- a call of a declared function with its number of arguments costs one of the budget, and gives what its body means
+-- a call of a declared function with its number of arguments takes one from the budget, and gives what its body means
 abbrev pub DeclaredCallsMeanTheirBody : Type 0
 DeclaredCallsMeanTheirBody =
     (fs : List FunctionTree) (j : ℕ) (vs : List ValueTree) (f : FunctionTree) (b : ℕ) →

@@ -48,7 +48,7 @@ pub record IsPrincipal (p : ProgramTree) (i : ℕ) (s : SchemeTree) : Type 0 whe
 
 -- ---- numbering
 
--- the numbers are new in their order: from k on, where those below k came before, up to n
+-- the numbers are new in their order: from k on, if those below k came before, up to n
 abbrev pub FirstComeInOrder : ℕ → List ℕ → ℕ → Type 0
 FirstComeInOrder k [] n = k ≡ n
 FirstComeInOrder k (x ∷ xs) n = ((x < k) × FirstComeInOrder k xs n) ⊎ ((x ≡ k) × FirstComeInOrder (suc k) xs n)
@@ -60,6 +60,6 @@ IsNumberedBy n ts = FirstComeInOrder 0 (variables ts) n
 abbrev pub IsNumbered : List TypeTree → Type 0
 IsNumbered ts = (n : ℕ) × IsNumberedBy n ts
 
--- a scheme is numbered where its types are, and each variable below `vars` occurs
+-- a scheme is numbered if its types are, and each variable below `vars` occurs
 abbrev pub IsNumberedScheme : SchemeTree → Type 0
 IsNumberedScheme s = IsNumberedBy s.vars (signature_types s.signature)

@@ -167,7 +167,7 @@ pub record IsLooseTypingOf (records : List RecordTree) (earlier : Earlier) (i : 
   pub result : ResultMatches choice f.result g.result
   pub body : Typed records (Calls earlier i f g) choice g.params f.body g.result
 
--- the base unit behind the declared ones that stands for unit parameter k in the function's own typing
+-- the base unit after the declared ones that stands for unit parameter k in the function's own typing
 abbrev pub parameter_unit : ℕ → ℕ → PowerMap
 parameter_unit bases k = atom (Base (bases + k))
 

@@ -62,7 +62,7 @@ pub fn numbered_schemes()
     ensures { NumberedSchemesAreOverTheirVariables }
 {}
 
-/// A sum, a difference and a comparison are typed exactly where both sides have one unit.
+/// A sum, a difference and a comparison are typed exactly if both sides have one unit.
 pub fn equal_units()
     ensures sums { SumHasOneUnit }
     ensures differences { DifferenceHasOneUnit }

@@ -32,7 +32,7 @@ impl Name {
         }
     }
 
-    /// The name with these bytes, copied. Takes no memory where there are at most 16.
+    /// The name with these bytes, copied. Takes no memory if there are at most 16.
     pub fn from_slice(alloc: Global, bytes: &[u8]) -> Result<Name, AllocError>
         ensures { IfOk result (λ name. name ≡ bytes.now) }
     {

@@ -45,7 +45,7 @@ pub struct Function {
     pub params: Notes,
     /// The number of its named unit variables
     pub named: u32,
-    /// The note of its result, where one is written
+    /// The note of its result, if one is written
     pub result: Option<Note>,
     pub body: Expr,
 }

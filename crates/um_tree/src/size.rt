@@ -9,7 +9,7 @@ use crate::{RawExpr, RawField, RawNode};
 /// The greatest height of a unit text, a type text, an expression, a type and a shape.
 pub const GREATEST_HEIGHT: u32 = 400;
 
-/// The height of an expression: 1 where it has no parts, else one more than its highest part.
+/// The height of an expression: 1 if it has no parts, otherwise one more than its highest part.
 ///
 /// Brackets count one; `([] : T)` has the height 3; units and types in it are not counted. The expression is no higher
 /// than [`GREATEST_HEIGHT`].

@@ -30,12 +30,12 @@ FirstNumber at value tokens rest =
     (token : Token) × (digits : Bool) × (one : Bool) × (token.kind ≡ kind.Number value digits one) × (token.start ≡ at)
     × (tokens ≡ token ∷ rest)
 
--- the first token is `<`, directly behind the token before it
+-- the first token is `<`, directly after the token before it
 abbrev pub FirstGlued : List Token → List Token → Type 0
 FirstGlued tokens rest =
     (token : Token) × (token.kind ≡ kind.Sign symbol.Less) × (token.glued ≡ true) × (tokens ≡ token ∷ rest)
 
--- a note in angle brackets, or nothing where there is none
+-- a note in angle brackets, or nothing if there is none
 abbrev pub WrittenSpells : Option NoteSyntax → List Token → List Token → Type 0
 WrittenSpells None tokens rest = tokens ≡ rest
 WrittenSpells (Some n) tokens rest =
@@ -46,7 +46,7 @@ WrittenSpells (Some n) tokens rest =
 abbrev pub PlainSpells : ℕ → Frac → Option NoteSyntax → List Token → List Token → Type 0
 PlainSpells at value n tokens rest = (next : List Token) × FirstNumber at value tokens next × WrittenSpells n next rest
 
--- the same behind `-`, where it is negative
+-- the same after `-`, if it is negative
 abbrev pub NumberSpells : ℕ → Bool → Frac → Option NoteSyntax → List Token → List Token → Type 0
 NumberSpells at false value n tokens rest = PlainSpells at value n tokens rest
 NumberSpells at true value n tokens rest =
@@ -72,7 +72,7 @@ module _ (records : List RecordTree) where
         (d : RecordTree) × (next : List Token) × (s ≡ record_shape r) × (slice_get records r ≡ Some d)
         × FirstSign symbol.LeftBrace tokens next × FieldsSpell vs d.fields next rest
 
-    -- items of the shape and the closing bracket; items behind another and the closing bracket
+    -- items of the shape and the closing bracket; items after another and the closing bracket
     pub ItemsSpell : ValueSyntaxes → ShapeTree → List Token → List Token → Type 0
     ItemsSpell raw_none t tokens rest = FirstSign symbol.RightBracket tokens rest
     ItemsSpell (raw_more v vs) t tokens rest =
@@ -84,7 +84,7 @@ module _ (records : List RecordTree) where
         (next mid : List Token) × FirstSign symbol.Semicolon tokens next × Spells v t next mid
         × MoreItemsSpell vs t mid rest
 
-    -- these fields, at least one, and the closing brace; these fields behind another and the closing brace
+    -- these fields, at least one, and the closing brace; these fields after another and the closing brace
     pub FieldsSpell : ValueSyntaxes → List FieldTree → List Token → List Token → Type 0
     FieldsSpell raw_none fs tokens rest = ⊥
     FieldsSpell (raw_more v vs) [] tokens rest = ⊥

@@ -1,5 +1,5 @@
 -- Reading a value text of a shape token by token, with the machine of notes inside.
--- Where the note inside refuses a token, it ends, and the token is looked at again.
+-- If the note inside refuses a token, it ends, and the token is looked at again.
 -- Source: this project's own.
 use Rattle.std.specs.Prelude.{ℕ, max, Bool, true, false, cond, List, [], ◌∷◌, ◌++◌, slice_get, Option, Some, None}
 use Rattle.std.specs.Str.{bytes_eq}
@@ -19,17 +19,17 @@ use Rattle.um_value.specs.ValueSyntax.{ValueSyntax, raw_truth, raw_number, raw_l
 use Rattle.um_value.specs.ValueSyntax.{raws_in_order}
 use Rattle.um_value.specs.ValueGrammar.{value_height}
 
--- what is open: a list with the items before; a record with the parts before and the fields behind
+-- what is open: a list with the items before; a record with the parts before and the fields that follow
 pub data Frame : Type 0 where
   InList : (item : ShapeTree) (earlier : List ValueSyntax) → Frame
   InRecord : (number : ℕ) (earlier : List ValueSyntax) (fields : List FieldTree) → Frame
 
 pub data ValueState : Type 0 where
-  -- a value of the shape is wanted; the same or `]`, behind `[`; a number, behind `-`
+  -- a value of the shape is wanted; the same or `]`, after `[`; a number, after `-`
   Need : (frames : List Frame) (shape : ShapeTree) → ValueState
   Begun : (frames : List Frame) (item : ShapeTree) → ValueState
   Negative : (frames : List Frame) → ValueState
-  -- behind a number; in its note
+  -- after a number; in its note
   Counted : (frames : List Frame) (at : ℕ) (negative : Bool) (value : Frac) → ValueState
   InNote : (frames : List Frame) (at : ℕ) (negative : Bool) (value : Frac) (note : NoteState) → ValueState
   -- the field's name is wanted; `=`, and then a value of the shape
@@ -92,13 +92,13 @@ equal_act frames s _ = NoValue
 
 -- ---- a value ends
 
--- the token behind these items
+-- the token after these items
 abbrev pub item_end : List Frame → ShapeTree → List ValueSyntax → Kind → ValueState
 item_end frames t items (kind.Sign symbol.Semicolon) = Need (InList t items ∷ frames) t
 item_end frames t items (kind.Sign symbol.RightBracket) = Have frames (raw_list (raws_in_order items))
 item_end frames t items _ = NoValue
 
--- the token behind these parts of a record: the next field, or the end
+-- the token after these parts of a record: the next field, or the end
 abbrev pub next_end : List Frame → ℕ → List ValueSyntax → FieldTree → List FieldTree → Kind → ValueState
 next_end frames r parts f fs (kind.Sign symbol.Semicolon) = NeedName (InRecord r parts fs ∷ frames) f
 next_end frames r parts f fs _ = NoValue
@@ -111,19 +111,19 @@ abbrev pub field_end : List Frame → ℕ → List ValueSyntax → List FieldTre
 field_end frames r parts [] k = last_end frames r parts k
 field_end frames r parts (f ∷ fs) k = next_end frames r parts f fs k
 
--- the token behind a value
+-- the token after a value
 abbrev pub ended : List Frame → ValueSyntax → Kind → ValueState
 ended [] v k = NoValue
 ended (InList t earlier ∷ frames) v k = item_end frames t (earlier ++ v ∷ []) k
 ended (InRecord r earlier fs ∷ frames) v k = field_end frames r (earlier ++ v ∷ []) fs k
 
--- the token behind a number: a glued `<`, or what ends the number
+-- the token after a number: a glued `<`, or what ends the number
 abbrev pub counted : List Frame → ℕ → Bool → Frac → Kind → Bool → ValueState
 counted frames at negative value (kind.Sign symbol.Less) glued =
     cond glued (InNote frames at negative value NeedNote) NoValue
 counted frames at negative value k glued = ended frames (raw_number at negative value None) k
 
--- the token behind a note
+-- the token after a note
 abbrev pub note_end : List Frame → ℕ → Bool → Frac → NoteSyntax → Kind → ValueState
 note_end frames at negative value n (kind.Sign symbol.Greater) = Have frames (raw_number at negative value (Some n))
 note_end frames at negative value n _ = NoValue
@@ -170,7 +170,7 @@ value_act records NoValue k at glued = NoValue
 abbrev pub value_step : List RecordTree → ValueState → Token → ValueState
 value_step records state token = value_act records state token.kind token.start token.glued
 
--- the value where all is read
+-- the value when all is read
 abbrev pub whole : List Frame → ValueSyntax → Option ValueSyntax
 whole [] v = Some v
 whole (f ∷ fs) v = None

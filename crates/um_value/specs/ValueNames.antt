@@ -1,4 +1,4 @@
--- The input that a value text stands for, and its first faults: of names, and behind them of ranges.
+-- The input that a value text stands for, and its first faults: of names, and after them of ranges.
 -- Source: the F# specification, chapter Units Of Measure; that names are looked at before ranges, and that `<_>` stands
 -- at 0 alone, are this project's own.
 use Rattle.std.specs.Prelude.{ℕ, Bool, cond, List, [], pos, Option, Some, None, Ok, Err}

@@ -1,4 +1,4 @@
--- Where the reading of a value text ends that is none.
+-- Where the reading ends of a text that is no value text.
 -- Source: this project's own; the stop is the end of the longest viable prefix, as in Knuth, On the Translation of
 -- Languages from Left to Right.
 use Rattle.std.specs.Prelude.{◌≡◌, ℕ, ◌+◌, ◌≤◌, ◌<◌, List, length, take}

@@ -24,7 +24,7 @@ pub(crate) struct Literal {
 pub(crate) enum Frame<'a> {
     /// A list of such items, with the items before
     InList(Wanted<'a>, Vec<RawValue>),
-    /// The record of this number, with the parts before and the fields behind
+    /// The record of this number, with the parts before and the fields that follow
     InRecord(u32, Vec<RawValue>, &'a [FieldDecl]),
 }
 

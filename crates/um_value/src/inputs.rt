@@ -17,7 +17,7 @@ use crate::stop::InputStop;
 use std::alloc::Global;
 use um_frac::Frac;
 use um_measures::{Measures, NameStop, NameTable, resolved_unit};
-use um_tree::{Input, Inputs, RawNote, RawUnit, UnitNote};
+use um_tree::{Input, Inputs, RawNote, UnitNote};
 use um_units::Unit;
 
 /// The input of a value text, or the first unit text that stands for no unit.
@@ -98,7 +98,7 @@ fn signed_number(negative: bool, value: Frac) -> Frac
     if negative { value.neg() } else { value }
 }
 
-// The note of a number: 1 where none is written.
+// The note of a number: 1 if none is written.
 fn unit_note(
     alloc: Global,
     measures: &Measures,
@@ -120,7 +120,7 @@ fn unit_note(
     }
 }
 
-// A unit text that stands for no unit, behind names that are known.
+// A unit text that stands for no unit, after names that are known.
 fn range_stop(stop: NameStop) -> InputStop
     ensures { (found : Found PowerMap) → IsFirst found stop → IsRangeAt (fault_in found) result }
 {

@@ -21,3 +21,4 @@ mod wanted;
 
 pub use read::read_value;
 pub use stop::InputStop;
+pub use um_cells::Runner;

@@ -1,5 +1,5 @@
 // Arguments as a user writes them.
-ghost use Rattle.std.specs.Prelude.{◌≡◌, ◌≤◌, ℕ, List, All, IfOk, length};
+ghost use Rattle.std.specs.Prelude.{◌≤◌, All, IfOk, length};
 ghost use Rattle.um_tree.specs.Formed.{IsFormed, IsUnitIn, IsFormedInput};
 ghost use Rattle.um_tree.specs.InputType.{ValueHas};
 ghost use Rattle.um_tree.specs.ValueTree.{input_tree, without_units};
@@ -65,7 +65,7 @@ fn named_input(
 
 /// The input of a shape that a text is.
 ///
-/// A value text is, at `bool`, `true` or `false`; at `num` an optional `-`, a number, and optionally, directly behind
+/// A value text is, at `bool`, `true` or `false`; at `num` an optional `-`, a number, and optionally, directly after
 /// it, `<`, a unit text or `_`, and `>`; at a list `[`, items separated by `;`, `]`, with no item allowed; at a record
 /// `{`, its fields in the order of declaration as `f = A` separated by `;`, `}`. A number without a unit is
 /// dimensionless. Measures stand for the first of their name among the program's base units and then the abbreviations.

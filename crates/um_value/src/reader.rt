@@ -1,12 +1,12 @@
 // A value text of a shape that is read one token at a time.
-ghost use Rattle.std.specs.Prelude.{◌≡◌, ◌≤◌, ◌∷◌, ◌++◌, [], None, Some, IfOk, map, slice_get, option_map};
+ghost use Rattle.std.specs.Prelude.{◌≡◌, ◌≤◌, [], None, Some, IfOk, map, slice_get, option_map};
 ghost use Rattle.um_tree.specs.RawTree.{note_syntax};
 ghost use Rattle.um_tree.specs.TypeTree.{shape_tree};
 ghost use Rattle.um_tree.specs.ProgramTree.{record_tree, field_tree};
 ghost use Rattle.um_types.specs.UnitStops.{greatest_height};
 ghost use Rattle.um_types.specs.NoteMachine.{note_finish};
 ghost use Rattle.um_types.specs.NoteView.{note_state};
-ghost use Rattle.um_value.specs.ValueSyntax.{raw_number, raw_list, raw_record, raws_in_order, value_syntax};
+ghost use Rattle.um_value.specs.ValueSyntax.{raw_number, value_syntax};
 ghost use Rattle.um_value.specs.ValueMachine.{Need, Have, truth_begin, number_begin, list_begin, record_begin};
 ghost use Rattle.um_value.specs.ValueMachine.{open_record, open_fields, begin, begun, negative_act, named, equal_act};
 ghost use Rattle.um_value.specs.ValueMachine.{item_end, next_end, last_end, field_end, ended, counted, note_end};
@@ -30,7 +30,7 @@ pub(crate) struct ValueReader<'a> {
     focus: Focus<'a>,
 }
 
-// The value where all is read, if nothing is open.
+// The value when all is read, if nothing is open.
 fn whole<'a>(frames: Vec<Frame<'a>>, value: RawValue) -> Option<RawValue>
     ensures { option_map value_syntax result ≡ whole (stack frames.entry.items) (value_syntax value) }
 {
@@ -171,7 +171,7 @@ impl<'a> ValueReader<'a> {
         }
     }
 
-    // The number behind `-`.
+    // The number after `-`.
     fn take_digits(&mut self, token: &Token) -> Taken
         requires wanted { self.old.focus ≡ Focus.Negative }
         ensures { Moves None (negative_act (stack self.old.frames.items) token.now.kind token.now.start) result
@@ -253,7 +253,7 @@ impl<'a> ValueReader<'a> {
         }
     }
 
-    // One token behind `[`.
+    // One token after `[`.
     fn take_item(
         &mut self,
         alloc: Global,
@@ -277,7 +277,7 @@ impl<'a> ValueReader<'a> {
         }
     }
 
-    // One token behind a number.
+    // One token after a number.
     fn take_counted(&mut self, literal: Literal, token: &Token) -> Result<Taken, AllocError>
         requires wanted { self.old.focus ≡ Focus.Negative }
         ensures { IfOk result (λ t. Moves (whole (stack self.old.frames.items)
@@ -291,7 +291,7 @@ impl<'a> ValueReader<'a> {
         }
     }
 
-    // `<` behind a number
+    // `<` after a number
     fn take_angle(&mut self, literal: Literal, glued: bool) -> Taken
         requires wanted { self.old.focus ≡ Focus.Negative }
         ensures { Moves (whole (stack self.old.frames.items)
@@ -325,7 +325,7 @@ impl<'a> ValueReader<'a> {
         }
     }
 
-    // The token behind a note.
+    // The token after a note.
     fn end_note(&mut self, literal: Literal, note: RawNote, token: &Token) -> Taken
         requires wanted { self.old.focus ≡ Focus.Negative }
         ensures { Moves None (note_end (stack self.old.frames.items) literal.at literal.negative literal.value
@@ -358,7 +358,7 @@ impl<'a> ValueReader<'a> {
         }
     }
 
-    // One token behind a field's name.
+    // One token after a field's name.
     fn take_equal(&mut self, wanted: Wanted<'a>, token: &Token) -> Taken
         requires wanted { self.old.focus ≡ Focus.Negative }
         ensures { Moves None (equal_act (stack self.old.frames.items) (wanted_shape wanted.entry) token.now.kind) result
@@ -370,7 +370,7 @@ impl<'a> ValueReader<'a> {
         }
     }
 
-    // One token behind a value.
+    // One token after a value.
     fn take_end(&mut self, value: RawValue, token: &Token) -> Result<Taken, AllocError>
         requires wanted { self.old.focus ≡ Focus.Negative }
         ensures { IfOk result (λ t. Moves (whole (stack self.old.frames.items) (value_syntax value))
@@ -392,7 +392,7 @@ impl<'a> ValueReader<'a> {
         }
     }
 
-    // The token behind these items.
+    // The token after these items.
     fn end_item(
         &mut self,
         item: Wanted<'a>,
@@ -416,7 +416,7 @@ impl<'a> ValueReader<'a> {
         }
     }
 
-    // The token behind these parts of a record.
+    // The token after these parts of a record.
     fn end_field(
         &mut self,
         r: u32,
@@ -434,7 +434,7 @@ impl<'a> ValueReader<'a> {
         }
     }
 
-    // The token behind these parts, where this field is next.
+    // The token after these parts, if this field is next.
     fn next_field(
         &mut self,
         r: u32,
@@ -459,7 +459,7 @@ impl<'a> ValueReader<'a> {
         }
     }
 
-    // The token behind all parts of a record.
+    // The token after all parts of a record.
     fn last_field(&mut self, r: u32, parts: Vec<RawValue>, token: &Token) -> Taken
         requires wanted { self.old.focus ≡ Focus.Negative }
         ensures { Moves None (last_end (stack self.old.frames.items) r (map value_syntax parts.items) token.now.kind)
@@ -476,7 +476,7 @@ impl<'a> ValueReader<'a> {
         }
     }
 
-    /// The value where all is read, if it is one.
+    /// The value when all is read, if it is one.
     pub(crate) fn finish(self) -> Option<RawValue>
         ensures found { option_map value_syntax result ≡ value_finish (value_state self.entry) }
     {

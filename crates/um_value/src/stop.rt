@@ -1,14 +1,14 @@
-// Why a text is no input.
+// Why a text isn't an input.
 use std::alloc::{AllocError, AllocFailed};
 use thiserror::Error;
 
-/// Why a text is no input of a shape. A place is a byte offset in the text.
+/// Why a text isn't an input of a shape. A place is a byte offset in the text.
 #[derive(Clone, Copy, Debug, PartialEq, Eq, Error)]
 pub enum InputStop {
     /// The text has no tokens.
     #[error("no token at {at}")]
     Text { at: u32 },
-    /// The tokens are no value text of the shape.
+    /// The tokens aren't a value text of the shape.
     #[error("no value of the shape at {at}")]
     Shape { at: u32 },
     /// A measure isn't known, or `<_>` stands at a number other than 0.

@@ -5,7 +5,7 @@ use Rattle.std.proofs.lemmas.Bool.Decides.{nat_tests}
 use Rattle.um_tree.specs.Heights.{greatest_height}
 use Rattle.um_shape.specs.RecordShapes.{RecordShape}
 use Rattle.um_machine.specs.declared.op.Op.{Op}
-use Rattle.um_verify.specs.StackShape.{StackShape, void, bool, num, list, made, join, both, join_all, stack_height}
+use Rattle.um_verify.specs.StackShape.{StackShape, void, bool, num, list, made, join, join_cons, join_all, stack_height}
 use Rattle.um_verify.specs.Rules.{Body, View, Sent, Flow, fails, passes, need, rule, inside, low_state, low_states, forwards}
 use Rattle.um_verify.specs.Verified.{Met, nobody, clash, arrived, joined, merge, gather, sends, passed, met}
 use Rattle.um_verify.proofs.Fits.{IfSome}
@@ -54,7 +54,7 @@ module _ (heights : List RecordShape) where
   rest_low true c h = h
   rest_low false c h = absurd cc
 
-  both_low : (s t : StackShape) (o : Option StackShape) (p : Option (List StackShape)) → IfSome o (Lower s t) → nat_le (stack_height heights s) greatest_height ≡ true → nat_le (stack_height heights t) greatest_height ≡ true → IfSome p (λ us. low_state heights us ≡ true) → IfSome (both o p) (λ us. low_state heights us ≡ true)
+  both_low : (s t : StackShape) (o : Option StackShape) (p : Option (List StackShape)) → IfSome o (Lower s t) → nat_le (stack_height heights s) greatest_height ≡ true → nat_le (stack_height heights t) greatest_height ≡ true → IfSome p (λ us. low_state heights us ≡ true) → IfSome (join_cons o p) (λ us. low_state heights us ≡ true)
   both_low s t None p h a b k = tt
   both_low s t (Some u) None h a b k = tt
   both_low s t (Some u) (Some us) h a b k = ap (λ (c : Bool). cond c (low_state heights us) false) (low_lower s t u h a b) ∙ k

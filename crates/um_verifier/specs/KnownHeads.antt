@@ -36,7 +36,7 @@ pub record TakesRecords (records : List RecordTree) (known : Known) (taken of_fi
 abbrev pub IsKnownRecord : List RecordShape → List StackShape → KnownRecord → Type 0
 IsKnownRecord heights ss r = (flat_shapes r.fields.items ≡ ss) × (r.height ≡ highest heights ss + 1)
 
--- record i, and the names that are taken behind it
+-- record i, and the names that are taken after it
 pub record FindsRecord
     (records : List RecordTree) (i : ℕ) (d : RecordTree) (known : Known)
     (taken of_fields new_taken new_of_fields : List (List ℕ)) (r : KnownRecord) : Type 0 where
@@ -86,7 +86,7 @@ pub record TakesHeads (image : ImageTree) (k : ℕ) (known : Known) (taken : Lis
   pub names : taken ≡ map (λ h. h.name) (take k image.heads)
   pub names_once : AreDistinct taken
 
--- function k, and the names that are taken behind it
+-- function k, and the names that are taken after it
 pub record FindsHead
     (image : ImageTree) (k : ℕ) (h : HeadTree) (taken new_taken : List (List ℕ)) (found : KnownHead) : Type 0 where
   pub holds : FunctionHolds image k h

@@ -5,7 +5,7 @@ use Rattle.std.specs.Str.{bytes_eq}
 use Rattle.unicode_ident.specs.Ident.{is_xid_continue}
 use Rattle.um_tree.specs.Formed.{starts_name, reserved_words, IsNameBytes, AreDistinct}
 
--- an identifier goes on with the character, where it has some before it
+-- an identifier goes on with the character, if it has some before it
 abbrev pub goes_on : Bool → ℕ → Bool
 goes_on some c = cond some (is_xid_continue c) (starts_name c)
 
@@ -22,7 +22,7 @@ abbrev pub is_one_of : List (List ℕ) → List ℕ → Bool
 is_one_of [] x = false
 is_one_of (w ∷ ws) x = cond (bytes_eq x w) true (is_one_of ws x)
 
--- these are taken behind those that were
+-- these are taken after those that were
 pub record AreTaken (old xs new : List (List ℕ)) : Type 0 where
   pub names : All IsNameBytes xs
   pub once : AreDistinct old → AreDistinct (old ++ xs)

@@ -9,7 +9,7 @@ use Rattle.um_verify.specs.Verified.{IsFirstAddress}
 use Rattle.um_verifier.specs.declared.stop.VerifyStop.{VerifyStop}
 use Rattle.um_verifier.specs.declared.stop.VerifyStop.TheVariants.{Head, Code, NoMemory}
 
--- the refusal is the image's; memory may always be wanting
+-- the refusal is the image's; want of memory may always come instead
 abbrev pub IsRefusal : ImageTree → VerifyStop → Type 0
 IsRefusal image (Head i) = IsFirstHead image i
 IsRefusal image (Code a) = ((i : ℕ) → HeadHolds image i) × IsFirstAddress (view_of image) a

@@ -1,9 +1,9 @@
 //! The rules of a function's instructions, one address after another.
-ghost use Rattle.std.specs.Prelude.{◌≡◌, ◌≤◌, ◌<◌, ◌+◌, ◌-◌, ◌^◌, ℕ, length, slice_get, vec_len, IfOk, MatchOption};
+ghost use Rattle.std.specs.Prelude.{◌≡◌, ◌<◌, ◌+◌, ◌-◌, ℕ, length, slice_get, vec_len, IfOk, MatchOption};
 ghost use Rattle.um_verify.specs.Rules.{Body};
 ghost use Rattle.um_verify.specs.Verified.{nobody, arrived, passed, BodyHolds, CodeHolds, FirstFailure, IsFirstAddress};
 ghost use Rattle.um_verifier.specs.FlatShapes.{flat_shape, flat_shapes};
-ghost use Rattle.um_verifier.specs.KnownImages.{known_body, known_heights, known_view, stays};
+ghost use Rattle.um_verifier.specs.KnownImages.{known_body, known_view, stays};
 ghost use Rattle.um_verifier.specs.States.{AreLow, IsLowMet};
 ghost use Rattle.um_verifier.specs.Bodies.{AreReady};
 ghost use Rattle.um_verifier.specs.Tables.{met_of, met_at, flow_of, StaysIn};
@@ -12,10 +12,11 @@ use crate::flat::FlatShape;
 use crate::known::{Known, KnownHead};
 use crate::rules::rule;
 use crate::table::{Flow, Met, send, take_met};
+use crate::view::View;
 use std::alloc::{AllocError, Global};
 use um_machine::{Code, Entry};
 
-/// What is passed on, where it goes to later addresses of the function.
+/// What is passed on, if it goes to later addresses of the function.
 fn checked(flow: Flow, at: u32, end: u32) -> Flow
     ensures flow { flow_of result ≡ stays at end (flow_of flow) }
     ensures stays { StaysIn (at + 1) end result }
@@ -29,24 +30,22 @@ fn checked(flow: Flow, at: u32, end: u32) -> Flow
     if stays { flow } else { Flow::Fails }
 }
 
-/// What the instruction at an address of a function passes on, where this has arrived.
+/// What the instruction at an address of a function passes on, if this has arrived.
 fn pass(
-    alloc: Global,
-    known: &Known,
-    code: &Code,
+    view: &View,
     result_shape: FlatShape,
     at: u32,
     end: u32,
     met: Met,
 ) -> Result<Flow, AllocError>
     requires address { at < end }
-    requires low { IsLowMet known.now met }
-    requires count { length code.now.entries ≡ length known.now.heads.items }
+    requires low { IsLowMet view.now.known.now met }
     ensures flow { (body : Body) → body.end ≡ end → body.result ≡ flat_shape result_shape → IfOk result (λ f. flow_of f
-        ≡ passed (known_view known.now code.now) body at (slice_get code.now.ops at) (met_of met)) }
+        ≡ passed (known_view view.now.known.now view.now.code.now) body at (slice_get view.now.code.now.ops at)
+        (met_of met)) }
     ensures stays { IfOk result (λ f. StaysIn (at + 1) end f) }
 {
-    let ops = code.ops.as_slice();
+    let ops = view.code.ops.as_slice();
     if ops.len() <= at as usize {
         return Ok(Flow::Fails);
     }
@@ -55,7 +54,7 @@ fn pass(
         Met::Nobody => Ok(Flow::Fails),
         Met::Clash => Ok(Flow::Fails),
         Met::Arrived(state) => {
-            let flow = rule(alloc, known, result_shape, state, at, op)?;
+            let flow = rule(view.alloc, view.known, result_shape, state, at, op)?;
             Ok(checked(flow, at, end))
         }
     }
@@ -77,41 +76,32 @@ fn first_table(alloc: Global, params: &[FlatShape], count: u32) -> Result<Vec<Me
     Ok(table)
 }
 
-/// Nothing where the rule of each instruction of the function holds, and else the first one whose rule fails.
+/// Nothing if the rule of each instruction of the function holds, and otherwise the first one whose rule fails.
 pub(crate) fn verify_body(
-    alloc: Global,
-    known: &Known,
-    code: &Code,
+    view: &View,
     entry: Entry,
     head: &KnownHead,
 ) -> Result<Option<u32>, AllocError>
     requires filled { entry.start < entry.end }
-    requires low { AreLow known.now head.now.params.items }
-    requires count { length code.now.entries ≡ length known.now.heads.items }
-    ensures { IfOk result (λ r. MatchOption r (BodyHolds (known_view known.now code.now) (known_body entry head.now))
-        (λ n. FirstFailure (known_view known.now code.now) (known_body entry head.now) n)) }
+    requires low { AreLow view.now.known.now head.now.params.items }
+    ensures { IfOk result (λ r. MatchOption r
+        (BodyHolds (known_view view.now.known.now view.now.code.now) (known_body entry head.now))
+        (λ n. FirstFailure (known_view view.now.known.now view.now.code.now) (known_body entry head.now) n)) }
 {
-    let mut table = first_table(alloc, &head.params, entry.end - entry.start)?;
-    for n in 0..entry.end - entry.start {
+    let count = entry.end - entry.start;
+    let mut table = first_table(view.alloc, &head.params, count)?;
+    for n in 0..count {
         let met = take_met(&mut table, n as usize);
-        let flow = pass(
-            alloc,
-            known,
-            code,
-            head.result,
-            entry.start + n,
-            entry.end,
-            met,
-        )?;
+        let flow = pass(view, head.result, entry.start + n, entry.end, met)?;
         if flow.has_failed() {
             return Ok(Some(n));
         }
-        send(alloc, &mut table, entry.start, flow)?;
+        send(view.alloc, &mut table, entry.start, flow)?;
     }
     Ok(None)
 }
 
-/// Nothing where the rule of each address holds, and else the first address whose rule fails.
+/// Nothing if the rule of each address holds, and otherwise the first address whose rule fails.
 pub(crate) fn verify_code(
     alloc: Global,
     known: &Known,
@@ -121,10 +111,11 @@ pub(crate) fn verify_code(
     ensures { IfOk result (λ r. MatchOption r (CodeHolds (known_view known.now code.now))
         (λ a. IsFirstAddress (known_view known.now code.now) a)) }
 {
+    let view = View { alloc, known, code };
     let entries = code.entries.as_slice();
     for f in 0..entries.len() {
         let entry = entries[f];
-        match verify_body(alloc, known, code, entry, &known.heads[f])? {
+        match verify_body(&view, entry, &known.heads[f])? {
             None => {}
             Some(n) => return Ok(Some(entry.start + n)),
         }

@@ -12,12 +12,12 @@ use um_verify::Image;
 
 /// The image as a verified one: no run of its functions is ever stuck.
 ///
-/// Its heads are looked at first, records before functions, and then each address in order. A head breaks its rules
-/// where a name is none or is taken before, where a record has no field or more than 32, names a record that isn't an
-/// earlier one, or has a field that is higher than 400, and where a function has more than 16 parameters, no
-/// instruction, a shape that names no record, or one that is higher than 400.
+/// Its heads are looked at first, records before functions, and then each address in order. A head breaks its rules if
+/// a name of it isn't one or is taken before; if a record has no field or more than 32, names a record that isn't an
+/// earlier one, or has a field that is higher than 400; and if a function has more than 16 parameters, no instruction,
+/// a shape that names no record, or one that is higher than 400.
 ///
-/// `Head` is the first of these, `Code` the first address whose rule fails where all heads hold, and `NoMemory` may
+/// `Head` is the first of these, `Code` the first address whose rule fails if all heads hold, and `NoMemory` may
 /// come with any image. The image is handed back on none of them. The limits are this project's own; for the rules of
 /// instructions see X. Leroy, Java bytecode verification: algorithms and formalizations, 2003.
 pub fn verify(alloc: Global, image: Image) -> Result<Verified, VerifyStop>

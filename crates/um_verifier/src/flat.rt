@@ -177,7 +177,7 @@ impl FlatShape {
         self.item.names_below(count)
     }
 
-    /// The shape of a list of such items, where it has fewer than 400 lists.
+    /// The shape of a list of such items, if it has fewer than 400 lists.
     pub(crate) fn list(self) -> Option<FlatShape>
         ensures { MatchOption result (greatest_height ≤ self.lists + 1) (λ l. flat_shape l ≡ list (flat_shape self)) }
     {
@@ -190,7 +190,7 @@ impl FlatShape {
         })
     }
 
-    /// The shape of the items of a list of this shape, where it is a list's or that of no value.
+    /// The shape of the items of a list of this shape, if it is a list's or that of no value.
     pub(crate) fn items(self) -> Option<FlatShape>
         ensures { (go : StackShape → StackShape → Flow) → MatchOption result (on_list_shape (flat_shape self) go
             ≡ fails) (λ i. on_list_shape (flat_shape self) go ≡ go (flat_shape i) (flat_shape self)) }

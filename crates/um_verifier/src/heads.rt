@@ -1,13 +1,13 @@
 //! The rules of an image's functions, before their code is looked at.
 ghost use Rattle.std.specs.Prelude.{◌≡◌, ◌≤◌, ◌&&◌, ℕ, All, true, false, map, slice_get, Some, IfOk, MatchOption};
-ghost use Rattle.std.specs.Prelude.{MatchResult, [], length};
+ghost use Rattle.std.specs.Prelude.{MatchResult, []};
 ghost use Rattle.um_tree.specs.TypeTree.{shape_tree};
 ghost use Rattle.um_tree.specs.Heights.{greatest_height};
 ghost use Rattle.um_shape.specs.RecordShapes.{shape_height};
 ghost use Rattle.um_verify.specs.StackShape.{on_stack};
 ghost use Rattle.um_verify.specs.ImageTree.{ImageTree, head_tree, image_tree, IsPlainHead, HasForm};
 ghost use Rattle.um_verify.specs.Heads.{FunctionHolds};
-ghost use Rattle.um_verifier.specs.FlatShapes.{flat_shape, flat_shapes};
+ghost use Rattle.um_verifier.specs.FlatShapes.{flat_shapes};
 ghost use Rattle.um_verifier.specs.KnownHeads.{TakesHeads, known_signature, head_signature, admits_signature};
 ghost use Rattle.um_verifier.specs.KnownHeads.{FindsHead, AreKnownRecords, AreKnownHeads};
 ghost use Rattle.um_verifier.specs.Refusals.{IsRefusal};
@@ -52,7 +52,7 @@ fn signature(alloc: Global, head: &Head) -> Result<KnownHead, AllocError>
     Ok(KnownHead { params, result })
 }
 
-/// The shapes of a function, where each is one over the known records.
+/// The shapes of a function, if each is one over the known records.
 fn known_head(alloc: Global, known: &Known, head: &Head) -> Result<Option<KnownHead>, AllocError>
     requires plain { IsPlainHead (head_tree head.now) }
     ensures { let s = head_signature (head_tree head.now) in IfOk result
@@ -66,7 +66,7 @@ fn known_head(alloc: Global, known: &Known, head: &Head) -> Result<Option<KnownH
     Ok(Some(found))
 }
 
-/// Function `k` of the image, where it holds; its name is taken.
+/// Function `k` of the image, if it holds; its name is taken.
 fn checked_head(
     alloc: Global,
     known: &Known,
@@ -93,7 +93,7 @@ fn checked_head(
     known_head(alloc, known, head)
 }
 
-/// The functions are known too, where each holds.
+/// The functions are known too, if each holds.
 fn add_heads(alloc: Global, mut known: Known, image: &Image) -> Result<Known, VerifyStop>
     requires form { HasForm (image_tree image.now) }
     requires records { AreKnownRecords (image_tree image.now).records known }
@@ -115,7 +115,7 @@ fn add_heads(alloc: Global, mut known: Known, image: &Image) -> Result<Known, Ve
     Ok(known)
 }
 
-/// What is known of the image, where each of its heads holds.
+/// What is known of the image, if each of its heads holds.
 pub(crate) fn known_image(alloc: Global, image: &Image) -> Result<Known, VerifyStop>
     requires form { HasForm (image_tree image.now) }
     ensures { MatchResult result (AreKnownHeads (image_tree image.now)) (IsRefusal (image_tree image.now)) }

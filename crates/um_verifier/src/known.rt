@@ -104,7 +104,7 @@ impl Known {
         self.is_low(a) && self.is_low(b)
     }
 
-    /// The shape of part `k` of a value of this shape, where it is a record's or that of no value.
+    /// The shape of part `k` of a value of this shape, if it is a record's or that of no value.
     pub(crate) fn part(&self, shape: FlatShape, k: u32) -> Option<FlatShape>
         ensures { (go : StackShape → Flow) → part_flow (known_fields self.now) (flat_shape shape) k go
             ≡ on_found (option_map flat_shape result) fails go }

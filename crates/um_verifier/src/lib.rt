@@ -21,6 +21,7 @@ mod rules;
 mod stop;
 mod table;
 mod verified;
+mod view;
 
 pub use check::verify;
 pub use laws::refusals_of_images;

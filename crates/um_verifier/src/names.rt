@@ -11,7 +11,7 @@ use um_measures::NameTable;
 use um_tree::{FieldDecl, Name};
 use unicode_ident::{is_xid_continue, is_xid_start};
 
-/// Whether an identifier goes on with the character, where it has some before it.
+/// Whether an identifier goes on with the character, if it has some before it.
 fn goes_on(some: bool, c: char) -> bool
     ensures { result ≡ goes_on some c }
 {
@@ -80,7 +80,7 @@ pub(crate) fn is_name(bytes: &[u8]) -> bool
     }
 }
 
-/// Takes a name, where it is one and isn't taken.
+/// Takes a name, if it is one and isn't taken.
 pub(crate) fn take_name(
     alloc: Global,
     taken: &mut NameTable,
@@ -99,7 +99,7 @@ pub(crate) fn take_name(
     Ok(true)
 }
 
-/// Takes the names of the fields, where each is one and isn't taken.
+/// Takes the names of the fields, if each is one and isn't taken.
 pub(crate) fn take_field_names(
     alloc: Global,
     taken: &mut NameTable,

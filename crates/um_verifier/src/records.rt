@@ -1,5 +1,5 @@
 //! The rules of an image's records.
-ghost use Rattle.std.specs.Prelude.{◌≡◌, ◌≤◌, ◌<◌, ◌^◌, ◌&&◌, ℕ, All, List, true, false, length, map, take, slice_get};
+ghost use Rattle.std.specs.Prelude.{◌≡◌, ◌≤◌, ◌<◌, ◌^◌, ℕ, All, List, true, false, length, map, take, slice_get};
 ghost use Rattle.std.specs.Prelude.{Some, IfOk, MatchOption};
 ghost use Rattle.std.specs.Prelude.{MatchResult};
 ghost use Rattle.std.specs.List.{list_all};
@@ -36,7 +36,7 @@ fn field_shapes(alloc: Global, fields: &[FieldDecl]) -> Result<Vec<FlatShape>, A
     Ok(shapes)
 }
 
-/// The record with these fields, where each names known records alone and is at most 400 high.
+/// The record with these fields, if each names known records alone and is at most 400 high.
 fn known_record(
     alloc: Global,
     known: &Known,
@@ -58,7 +58,7 @@ fn known_record(
     }))
 }
 
-/// Record `i` of the image, where it holds; its names are taken.
+/// Record `i` of the image, if it holds; its names are taken.
 fn checked_record(
     alloc: Global,
     known: &Known,
@@ -91,7 +91,7 @@ fn checked_record(
     known_record(alloc, known, fields)
 }
 
-/// The records, where each holds.
+/// The records, if each holds.
 pub(crate) fn known_records(alloc: Global, declared: &[Record]) -> Result<Known, VerifyStop>
     requires plain { All (λ d. IsPlainRecord (record_tree d)) declared.now }
     requires count { length declared.now < 2 ^ 32 }

@@ -18,7 +18,7 @@ use crate::table::{Flow, Sent};
 use std::alloc::{AllocError, Global};
 use um_machine::Op;
 
-/// The state with one more shape goes to the next address, where the shape is low.
+/// The state with one more shape goes to the next address, if the shape is low.
 fn pushed(
     known: &Known,
     state: Vec<FlatShape>,
@@ -247,7 +247,7 @@ pub(crate) fn make_list(
     pushed_list(known, low, at, item)
 }
 
-/// The shape of the items of a list of these, where they have one.
+/// The shape of the items of a list of these, if they have one.
 fn joined_items(shapes: &[FlatShape]) -> Option<FlatShape>
     ensures { option_map flat_shape result ≡ join_items (flat_shapes shapes.now) }
 {
@@ -263,7 +263,7 @@ fn joined_items(shapes: &[FlatShape]) -> Option<FlatShape>
     Some(item)
 }
 
-/// The state with a list of such items goes to the next address, where there is such an item and the list is low.
+/// The state with a list of such items goes to the next address, if there is such an item and the list is low.
 fn pushed_list(
     known: &Known,
     state: Vec<FlatShape>,
@@ -378,7 +378,7 @@ fn fit_all(shapes: &[FlatShape], asked: &[FlatShape]) -> bool
     true
 }
 
-/// Takes as many shapes as are asked for, where these fit them, and gives one.
+/// Takes as many shapes as are asked for, if these fit them, and gives one.
 fn on_all(
     known: &Known,
     state: Vec<FlatShape>,
@@ -483,7 +483,7 @@ fn on_numbers(
     on_two(known, state, at, number, FlatShape::of(given))
 }
 
-/// The rule of the instruction, where this state arrives: what is passed on is low.
+/// The rule of the instruction, if this state arrives: what is passed on is low.
 pub(crate) fn rule(
     alloc: Global,
     known: &Known,

@@ -6,7 +6,7 @@ use thiserror::Error;
 /// Why an image isn't verified.
 #[derive(Clone, Copy, Debug, PartialEq, Eq, Error)]
 pub enum VerifyStop {
-    /// The first head that breaks its rules: records first, and functions behind them, counted from 0.
+    /// The first head that breaks its rules: records first, and functions after them, counted from 0.
     #[error("wrong head")]
     Head { index: u32 },
     /// The first address whose rule fails.

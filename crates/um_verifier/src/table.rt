@@ -1,5 +1,5 @@
 //! What has arrived at the addresses of a function.
-ghost use Rattle.std.specs.Prelude.{◌≡◌, ◌≢◌, ◌≤◌, ◌<◌, ◌-◌, ◌+◌, ℕ, option_map, IfOk, OnOk, vec_len};
+ghost use Rattle.std.specs.Prelude.{◌≡◌, ◌≢◌, ◌<◌, ◌-◌, ◌+◌, ℕ, option_map, IfOk, OnOk, vec_len};
 ghost use Rattle.um_verify.specs.StackShape.{join_all};
 ghost use Rattle.um_verify.specs.Verified.{merge, sends};
 ghost use Rattle.um_verifier.specs.FlatShapes.{flat_shapes};
@@ -26,7 +26,7 @@ pub(crate) struct Sent {
     pub(crate) state: Vec<FlatShape>,
 }
 
-/// The join of two states, where there is one.
+/// The join of two states, if there is one.
 fn join_all(
     alloc: Global,
     old: &[FlatShape],
@@ -48,7 +48,7 @@ fn join_all(
     Ok(Some(joined))
 }
 
-/// What has arrived after one more state. Where it is the first, it is taken as it is.
+/// What has arrived after one more state. If it is the first, it is taken as it is.
 fn merged(alloc: Global, met: &Met, state: Vec<FlatShape>) -> Result<Met, AllocError>
     ensures { IfOk result (λ m. met_of m ≡ merge (met_of met.now) (flat_shapes state.items)) }
 {

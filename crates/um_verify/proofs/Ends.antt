@@ -2,16 +2,15 @@
 use Rattle.std.proofs.Common.{◌≡◌, ◌≢◌, refl, sym, subst, ◌∙◌, ℕ, zero, suc, ◌+◌, ◌*◌, ◌<◌, ◌≤◌, ap, List, length, map, Option, Some, None, slice_get, arith}
 use Rattle.std.proofs.lemmas.Option.{slice_get_within}
 use Rattle.um_tree.specs.ValueTree.{ValueTree, OutcomeTree, value_outcome, trap_outcome, budget_outcome}
-use Rattle.um_machine.specs.declared.op.Op.{Op}
 use Rattle.um_machine.specs.declared.code.Entry.{Entry}
 use Rattle.um_machine.specs.declared.code.Code.{Code}
 use Rattle.um_machine.specs.Machine.{State, Step, going, done, stuck, step, next, runs, starts, Runs, EndsWith}
-use Rattle.um_machine.proofs.Rank.{Forward, rank, Falls, step_falls}
+use Rattle.um_machine.proofs.Rank.{rank, Falls, step_falls}
 use Rattle.um_verify.specs.StackShape.{StackShape, on_stack}
 use Rattle.um_verify.specs.ImageTree.{HeadTree, ImageTree}
 use Rattle.um_verify.specs.Rules.{Body, body_of, view_of}
 use Rattle.um_verify.specs.Verified.{IsVerified}
-use Rattle.um_verify.specs.Laws.{OutcomeHas, IsCall, NeverStuck, RunsEnd, EndsSoon, EndsHaveShape, CallsHaveEntries}
+use Rattle.um_verify.specs.Laws.{VerifiedGoForward, OutcomeHas, IsCall, NeverStuck, RunsEnd, EndsSoon, EndsHaveShape, CallsHaveEntries}
 use Rattle.um_verify.proofs.Bodies.{body_at, entry_of, head_of}
 use Rattle.um_verify.proofs.Fits.{same_length}
 use Rattle.um_verify.proofs.Sound.{Good, SafeStep, step_safe, whole_safe, not_stuck, value_has}
@@ -36,6 +35,10 @@ ended_later code o zero m l s h = absurd cc
 ended_later code o (suc n) zero l s h = absurd (omega arith)
 ended_later code o (suc n) (suc m) l s h = later_step code o n m (ended_later code o n m (omega arith)) (step code s) h
 
+pub forward : VerifiedGoForward
+forward image verified a i s =
+    code_forward image verified.form.entries verified.form.follow verified.code a i (slice_get_within image.code.ops a i s) s
+
 module _ (image : ImageTree) (f : ℕ) (head : HeadTree) (vs : List ValueTree) (b : ℕ) (verified : IsVerified image) (call : IsCall image f head vs) where
   abbrev outer : StackShape
   outer = on_stack head.result
@@ -50,10 +53,6 @@ module _ (image : ImageTree) (f : ℕ) (head : HeadTree) (vs : List ValueTree) (
 
   pub run_not_stuck : (n : ℕ) → Runs image.code f vs b n ≢ stuck
   run_not_stuck n = not_stuck image verified.form.entries outer (Runs image.code f vs b n) (run_safe n)
-
-  forward : (a : ℕ) (i : Op) → slice_get image.code.ops a ≡ Some i → Forward a i
-  forward a i s =
-      code_forward image verified.form.entries verified.form.follow verified.code a i (slice_get_within image.code.ops a i s) s
 
   -- at most so many steps end it
   abbrev Ending : Step → ℕ → Type 0
@@ -74,7 +73,7 @@ module _ (image : ImageTree) (f : ℕ) (head : HeadTree) (vs : List ValueTree) (
   state_ends : (k : ℕ) → EndBelow k
   state_ends zero s g h = absurd (omega arith)
   state_ends (suc k) s g h =
-      let r = step_ends k (state_ends k) (step image.code s) (rank l s) (step_safe image verified.form.entries outer (filled image verified) verified.code s g) (step_falls image.code forward s) (omega arith) in
+      let r = step_ends k (state_ends k) (step image.code s) (rank l s) (step_safe image verified.form.entries outer (filled image verified) verified.code s g) (step_falls image.code (forward image verified) s) (omega arith) in
       let few = r.3 in
       (r.0, suc r.1, r.2, omega arith)
 

@@ -3,7 +3,7 @@ use Rattle.std.proofs.Common.{◌≡◌, refl, sym, subst, ap, ℕ, zero, suc, �
 use Rattle.std.specs.Prelude.{option_map, nat_eq, nat_lt}
 use Rattle.std.proofs.lemmas.Bool.Decides.{nat_tests}
 use Rattle.um_tree.specs.ValueTree.{ValueTree, ValueTrees, truth_value, number_value, list_value, record_value, no_values, more_values, values_in_order}
-use Rattle.um_verify.specs.StackShape.{StackShape, void, bool, num, list, made, fits, join, fit_all, both, join_all, join_with, join_items}
+use Rattle.um_verify.specs.StackShape.{StackShape, void, bool, num, list, made, fits, join, fit_all, join_cons, join_all, join_with, join_items}
 
 abbrev pub IfSome : {A : Type 0} → Option A → (A → Type 0) → Type 0
 IfSome None P = Unit {0}
@@ -118,7 +118,7 @@ module _ (fields : List (List StackShape)) where
   more_below s t ss ts b c (v ∷ vs) h = (b v h.0, c vs h.1)
   more_below s t ss ts b c [] h = absurd h
 
-  both_some : (s : StackShape) (ss : List StackShape) (o : Option StackShape) (p : Option (List StackShape)) → IfSome o (Below s) → IfSome p (AllBelow ss) → IfSome (both o p) (AllBelow (s ∷ ss))
+  both_some : (s : StackShape) (ss : List StackShape) (o : Option StackShape) (p : Option (List StackShape)) → IfSome o (Below s) → IfSome p (AllBelow ss) → IfSome (join_cons o p) (AllBelow (s ∷ ss))
   both_some s ss None p h k = tt
   both_some s ss (Some u) None h k = tt
   both_some s ss (Some u) (Some us) h k = more_below s u ss us h k

@@ -6,7 +6,7 @@ use Rattle.um_machine.specs.declared.op.Op.{Op}
 use Rattle.um_machine.specs.declared.op.Op.TheVariants.{PushNum, PushBool, Load, Add, Sub, Mul, Div, Neg, Not, Lt, Le, Eq, Jump, JumpIfNot, MakeList, Cons, Split, MakeRec, Field, Slide, Call, Ret, Pow}
 use Rattle.um_machine.specs.declared.code.Entry.{Entry}
 use Rattle.um_machine.specs.Stack.{takes, on_one}
-use Rattle.um_machine.proofs.Rank.{Forward}
+use Rattle.um_machine.specs.Jumps.{GoesForward}
 use Rattle.um_verify.specs.StackShape.{StackShape, void, bool, num, list, made, fits}
 use Rattle.um_verify.specs.ImageTree.{HeadTree, ImageTree, Match, Follow}
 use Rattle.um_verify.specs.Rules.{Body, View, body_of, bodies_of, view_of, Sent, Flow, fails, passes, need, on_list_shape, rule, inside, low_states, forwards}
@@ -45,7 +45,7 @@ module _ (view : View) (e : Body) (a : ℕ) where
     by_test true j k = (among_inside a e.end p ps j m).0
     by_test false j k = absurd k
 
-  rule_forward : (st : List StackShape) (i : Op) → Goes (rule view e a st i) → Forward a i
+  rule_forward : (st : List StackShape) (i : Op) → Goes (rule view e a st i) → GoesForward a i
   rule_forward st (PushNum c) h = tt
   rule_forward st (PushBool b) h = tt
   rule_forward st (Load k) h = tt
@@ -77,7 +77,7 @@ module _ (view : View) (e : Body) (a : ℕ) where
   rule_forward st Ret h = tt
   rule_forward st (Pow k) h = tt
 
-  met_forward : (m : Met) (i : Op) → Passes (passed view e a (Some i) m) → Forward a i
+  met_forward : (m : Met) (i : Op) → Passes (passed view e a (Some i) m) → GoesForward a i
   met_forward nobody i h = absurd h
   met_forward clash i h = absurd h
   met_forward (arrived st) i h = rule_forward st i h
@@ -95,7 +95,7 @@ covered (e ∷ es) (h ∷ hs) m a z k w lo hi = by_end (λ c. covered es hs m.1 
 covered [] (h ∷ hs) m a z k w lo hi = absurd m
 covered (e ∷ es) [] m a z k w lo hi = absurd m
 
-pub code_forward : (image : ImageTree) → Match image.code.entries image.heads → Follow 0 image.code.entries (length image.code.ops) → CodeHolds (view_of image) → (a : ℕ) (i : Op) → a < length image.code.ops → slice_get image.code.ops a ≡ Some i → Forward a i
+pub code_forward : (image : ImageTree) → Match image.code.entries image.heads → Follow 0 image.code.entries (length image.code.ops) → CodeHolds (view_of image) → (a : ℕ) (i : Op) → a < length image.code.ops → slice_get image.code.ops a ≡ Some i → GoesForward a i
 code_forward image matched follow holds a i l s =
     let c = covered image.code.entries image.heads matched 0 (length image.code.ops) a follow (omega arith) l in
     let b = c.1 in

@@ -1,4 +1,4 @@
--- The rules of an image's heads: its records, and behind them its functions, by one index.
+-- The rules of an image's heads: its records, and after them its functions, by one index.
 -- Source: this project's own rules and limits; names by Unicode Standard Annex 31.
 use Rattle.std.specs.Prelude.{◌≡◌, ◌<◌, ◌≤◌, ◌+◌, ℕ, All, List, [], ◌∷◌, ◌++◌, length, map, take, slice_get, Some}
 use Rattle.um_tree.specs.TypeTree.{ShapeTree, bool_shape, num_shape, list_shape, record_shape}
@@ -10,7 +10,7 @@ use Rattle.um_shape.specs.RecordShapes.{RecordShape, shape_height, declared_shap
 use Rattle.um_machine.specs.declared.code.Entry.{Entry}
 use Rattle.um_verify.specs.ImageTree.{HeadTree, ImageTree}
 
--- the shapes of records behind these earlier ones, each with its height
+-- the shapes of records after these earlier ones, each with its height
 abbrev pub and_shapes : List RecordShape → List RecordTree → List RecordShape
 and_shapes earlier [] = earlier
 and_shapes earlier (d ∷ ds) = and_shapes (earlier ++ declared_shape earlier d ∷ []) ds

@@ -65,7 +65,7 @@ pub record IsPlainHead (h : HeadTree) : Type 0 where
   pub params : All IsLowText h.params
   pub result : IsLowText h.result
 
--- the entries stand one behind the other, from one address to another
+-- the entries stand one after the other, from one address to another
 abbrev pub Follow : ℕ → List Entry → ℕ → Type 0
 Follow a [] z = a ≡ z
 Follow a (e ∷ es) z = (e.start ≡ a) × (a ≤ e.end) × Follow e.end es z

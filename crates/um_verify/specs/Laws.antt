@@ -8,6 +8,7 @@ use Rattle.um_tree.specs.TypeTree.{ShapeTree}
 use Rattle.um_tree.specs.InputType.{ValueHas, ValuesHave}
 use Rattle.um_machine.specs.declared.code.Entry.{Entry}
 use Rattle.um_machine.specs.Machine.{done, stuck, Runs, EndsWith}
+use Rattle.um_machine.specs.Jumps.{JumpsGoForward}
 use Rattle.um_verify.specs.StackShape.{StackShape, fits, join}
 use Rattle.um_verify.specs.ImageTree.{HeadTree, ImageTree}
 use Rattle.um_verify.specs.Verified.{IsVerified}
@@ -56,12 +57,16 @@ CallsHaveEntries =
     (image : ImageTree) (f : ℕ) (head : HeadTree) (vs : List ValueTree) → IsVerified image → IsCall image f head vs →
     (e : Entry) × (slice_get image.code.entries f ≡ Some e) × (length vs ≡ e.params)
 
+-- the jumps of verified code go forward
+abbrev pub VerifiedGoForward : Type 0
+VerifiedGoForward = (image : ImageTree) → IsVerified image → JumpsGoForward image.code
+
 -- the join of two shapes is the least that both fit
 abbrev pub JoinIsLeast : Type 0
 JoinIsLeast =
     (s t u : StackShape) → join s t ≡ Some u →
     (fits s u ≡ true) × (fits t u ≡ true) × ((w : StackShape) → fits s w ≡ true → fits t w ≡ true → fits u w ≡ true)
 
--- and where they have none, there is no shape that both fit
+-- and if they have none, there is no shape that both fit
 abbrev pub NoJoinNoBound : Type 0
 NoJoinNoBound = (s t w : StackShape) → join s t ≡ None → fits s w ≡ true → fits t w ≡ true → ⊥

@@ -21,7 +21,7 @@ use Rattle.um_verify.specs.Heads.{record_shapes}
 
 -- ---- what the rules look at
 
--- a function: the address of its first instruction and the one behind its last, and its shapes
+-- a function: the address of its first instruction and the one after its last, and its shapes
 pub record Body : Type 0 where
   pub start : ℕ
   pub end : ℕ
@@ -77,7 +77,7 @@ need b flow = cond b flow fails
 abbrev pub to : ℕ → List StackShape → Flow
 to a st = passes (record { to = a; state = st } ∷ [])
 
--- the item and the list, where the shape is a list's or void
+-- the item and the list, if the shape is a list's or void
 abbrev pub on_list_shape : StackShape → (StackShape → StackShape → Flow) → Flow
 on_list_shape void go = go void void
 on_list_shape bool go = fails
@@ -85,7 +85,7 @@ on_list_shape num go = fails
 on_list_shape (list s) go = go s (list s)
 on_list_shape (made r) go = fails
 
--- the record, where the shape is a record's; `none` is the answer at void
+-- the record, if the shape is a record's; `none` is the answer at void
 abbrev pub on_record_shape : StackShape → Flow → (ℕ → Flow) → Flow
 on_record_shape void none go = none
 on_record_shape bool none go = fails
@@ -108,7 +108,7 @@ fit_two a st asked given =
     takes 0 2 st fails (λ low taken.
     on_two taken fails (λ x y. need (fits x asked) (need (fits y asked) (to (a + 1) (low ++ given ∷ [])))))
 
--- the rule of the instruction at address a of a function, where this state arrives
+-- the rule of the instruction at address a of a function, if this state arrives
 abbrev pub rule : View → Body → ℕ → List StackShape → Op → Flow
 rule view body a st (PushNum c) = to (a + 1) (st ++ num ∷ [])
 rule view body a st (PushBool b) = to (a + 1) (st ++ bool ∷ [])

@@ -49,14 +49,14 @@ fit_all [] [] = true
 fit_all (s ∷ ss) (t ∷ ts) = cond (fits s t) (fit_all ss ts) false
 fit_all ss ts = false
 
-abbrev pub both : Option StackShape → Option (List StackShape) → Option (List StackShape)
-both None o = None
-both (Some u) None = None
-both (Some u) (Some us) = Some (u ∷ us)
+abbrev pub join_cons : Option StackShape → Option (List StackShape) → Option (List StackShape)
+join_cons None o = None
+join_cons (Some u) None = None
+join_cons (Some u) (Some us) = Some (u ∷ us)
 
 abbrev pub join_all : List StackShape → List StackShape → Option (List StackShape)
 join_all [] [] = Some []
-join_all (s ∷ ss) (t ∷ ts) = both (join s t) (join_all ss ts)
+join_all (s ∷ ss) (t ∷ ts) = join_cons (join s t) (join_all ss ts)
 join_all ss ts = None
 
 abbrev pub join_with : StackShape → Option StackShape → Option StackShape

@@ -32,7 +32,7 @@ abbrev pub sends : Met → Flow → ℕ → Met
 sends m fails t = m
 sends m (passes ps) t = gather m ps t
 
--- what the instruction at an address passes on, where this arrives
+-- what the instruction at an address passes on, if this arrives
 abbrev pub passed : View → Body → ℕ → Option Op → Met → Flow
 passed view body a None m = fails
 passed view body a (Some i) nobody = fails

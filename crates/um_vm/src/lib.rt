@@ -6,6 +6,7 @@
 //! ```
 //! let runner = CodeRunner::new(&shaped, &code);
 //! let counted = runner.count_steps(alloc, f, args, budget)?; // the outcome, and in how many steps
+//! let counted = run_code(alloc, &code, f, args, budget)?; // the same of any code whose jumps go forward
 //! let mut machine = Machine::start(alloc, &code, f, args, budget)?;
 //! let step = machine.step()?; // Going, Ended or Stuck
 //! ```
@@ -24,7 +25,7 @@ mod step;
 mod stop;
 mod words;
 
-pub use counting::CountedOutcome;
+pub use counting::{CountedOutcome, run_code};
 pub use laws::{counted_calls, shown_steps};
 pub use machine::Machine;
 pub use runner::CodeRunner;

@@ -24,7 +24,8 @@ pub struct Machine<'a> {
 }
 
 impl<'a> Machine<'a> {
-    ghost use Rattle.std.specs.Prelude.{◌≡◌, ◌-◌, ◌<◌, ◌≤◌, List, length, map, slice_get, Err, IfOk, OnOk, OnErr, IsErr};
+    ghost use Rattle.std.specs.Prelude.{◌≡◌, ◌-◌, ◌<◌, ◌≤◌, length, map, slice_get, Err, IfOk, OnOk, OnErr};
+    ghost use Rattle.std.specs.Prelude.{IsErr};
     ghost use Rattle.um_tree.specs.ValueTree.{OutcomeTree, value_tree, outcome_tree};
     ghost use Rattle.um_machine.specs.declared.code.Code.{Code};
     ghost use Rattle.um_machine.specs.Machine.{State, Step as MachineStep, going, done, starts, next, step};
@@ -35,7 +36,7 @@ impl<'a> Machine<'a> {
     ghost use Rattle.um_vm.specs.Showing.{Shows, HasFailed, IsAnswer, IsCallOf};
 
     /// A machine at the start of a call of function `f` of the code on the arguments, in the order of its parameters.
-    /// The call itself costs one of the budget.
+    /// The call itself takes one from the budget.
     ///
     /// `f` is the number of an entry of the code, and the arguments are as many as its parameters. `NoMemory` is the
     /// one error.
@@ -60,7 +61,7 @@ impl<'a> Machine<'a> {
 
     /// One step: the instruction at the machine's address.
     ///
-    /// `Stuck` comes exactly where no instruction applies, and `Ended` where the run has ended. A machine that is stuck
+    /// `Stuck` comes exactly if no instruction applies, and `Ended` if the run has ended. A machine that is stuck
     /// or has ended answers the same at each further step, or `NoMemory`, which is the one error and is answered from
     /// then on.
     pub fn step(&mut self) -> Result<Step, NoMemory>
@@ -93,7 +94,8 @@ impl<'a> Machine<'a> {
         }
     }
 
-    /// Steps of a machine that goes on, up to the end of its run and at most `limit`, which isn't 0: how many they were.
+    /// Makes steps of a machine that goes on, up to the end of its run and at most `limit`, which isn't 0. Gives their
+    /// number.
     pub(crate) fn go_on(&mut self, limit: u64) -> Result<u64, NoMemory>
         requires going { self.old.phase ≡ Going }
         requires limit { 0 < limit }

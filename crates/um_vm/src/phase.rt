@@ -19,7 +19,7 @@ pub(crate) enum Phase {
     Going,
     Ended(End),
     Stuck,
-    /// Memory was wanting
+    /// Memory ran out
     Failed,
 }
 

@@ -1,9 +1,9 @@
 //! The code runner.
-use crate::counting::{CountedOutcome, run_call};
+use crate::counting::{CountedOutcome, run_code};
 use std::alloc::Global;
 use std::marker::Model;
+use um_cells::Runner;
 use um_machine::Code;
-use um_runner::Runner;
 use um_shape::Shaped;
 use um_tree::{Outcome, Program, Values};
 use um_units::NoMemory;
@@ -39,7 +39,7 @@ impl<'a> CodeRunner<'a> {
     ghost use Rattle.um_tree.specs.ProgramTree.{program_tree};
     ghost use Rattle.um_tree.specs.ValueTree.{value_tree, outcome_tree};
     ghost use Rattle.um_tree.specs.Meaning.{outcome_of_call};
-    ghost use Rattle.um_runner.specs.Arguments.{AreArgumentsOf};
+    ghost use Rattle.um_cells.specs.Arguments.{AreArgumentsOf};
     ghost use Rattle.um_gen.specs.ProgramCode.{program_code};
     ghost use Rattle.um_vm.specs.Counting.{CountsSteps};
 
@@ -55,7 +55,7 @@ impl<'a> CodeRunner<'a> {
     }
 
     /// Calls function `f`, counted from 0, on values in the order of its parameters, and counts the steps that the
-    /// machine takes to the end. The call itself and each call that it makes cost one of the budget.
+    /// machine takes to the end. The call itself and each call that it makes take one from the budget.
     ///
     /// `f` is the number of a function of the program, and the values have the shapes of its parameters. `NoMemory` is
     /// the one error.
@@ -74,7 +74,7 @@ impl<'a> CodeRunner<'a> {
         ensures steps { IfOk result (λ counted. CountsSteps (program_code (program_tree self.now).functions) f
             (map value_tree args.items.items) budget (outcome_tree counted.outcome) counted.steps) }
     {
-        run_call(alloc, self.code, f, args, budget)
+        run_code(alloc, self.code, f, args, budget)
     }
 }
 

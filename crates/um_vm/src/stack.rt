@@ -17,7 +17,8 @@ pub(crate) struct Stack {
 }
 
 impl Stack {
-    ghost use Rattle.std.specs.Prelude.{◌≡◌, ◌+◌, ◌-◌, ◌<◌, ◌≤◌, List, [], ◌∷◌, ◌++◌, Result, Ok, Some, length, map, take, drop, slice_get, IfOk, OnOk, IfSome, MatchOption};
+    ghost use Rattle.std.specs.Prelude.{◌≡◌, ◌+◌, ◌-◌, ◌<◌, ◌≤◌, List, [], ◌∷◌, ◌++◌, Result, Ok, Some, length, map};
+    ghost use Rattle.std.specs.Prelude.{take, drop, slice_get, IfOk, OnOk, IfSome, MatchOption};
     ghost use Rattle.um_tree.specs.ValueTree.{ValueTree, list_value, record_value, value_tree, values_in_order};
     ghost use Rattle.um_tree.specs.Meaning.{Stop as MeaningStop, longer};
     ghost use Rattle.um_cells.specs.declared.word.Word.{Word};

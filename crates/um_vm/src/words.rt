@@ -1,5 +1,6 @@
 //! Words in a vector, as the stack has them.
-ghost use Rattle.std.specs.Prelude.{◌≡◌, ◌+◌, ◌<◌, ◌≤◌, Some, [], ◌∷◌, ◌++◌, length, map, take, slice_get, IfOk, OnOk, OnErr, OnSome};
+ghost use Rattle.std.specs.Prelude.{◌≡◌, ◌+◌, ◌<◌, ◌≤◌, Some, [], ◌∷◌, ◌++◌, length, map, take, slice_get, IfOk, OnOk};
+ghost use Rattle.std.specs.Prelude.{OnErr, OnSome};
 ghost use Rattle.um_tree.specs.ValueTree.{value_tree};
 ghost use Rattle.um_cells.specs.Stores.{AllDenote};
 
@@ -55,7 +56,7 @@ pub(crate) fn word_above(words: &Vec<Word>, base: usize, k: usize) -> Option<Wor
     }
 }
 
-/// The word in place of those from the place on. On want of memory the words are as they were.
+/// The word in place of those from the place on. If memory runs out, the words are as they were.
 pub(crate) fn settle(words: &mut Vec<Word>, at: usize, word: Word) -> Result<(), NoMemory>
     requires { at ≤ length words.old.items }
     ensures ok { OnOk result (words.new.items ≡ take at words.old.items ++ word ∷ []) }
@@ -70,7 +71,7 @@ pub(crate) fn settle(words: &mut Vec<Word>, at: usize, word: Word) -> Result<(),
     Ok(())
 }
 
-/// Two words in place of the topmost. On want of memory the words are as they were.
+/// Two words in place of the topmost. If memory runs out, the words are as they were.
 pub(crate) fn settle_two(
     words: &mut Vec<Word>,
     at: usize,

@@ -14,9 +14,9 @@ use Rattle.um_names.proofs.expr.+expr.Goals as goal
 pub exprs-returns-clause-exact : goal.exprs-returns-clause-exact
 exprs-returns-clause-exact t c =
     let a = c.args in
-    exprs_each (known_of a.tables.now) a.body.now.variables (callables_of a.tables.now a.body.now) a.scope.now (map expr_syntax a.items.now)
+    exprs_each (known_of a.lookup.now.tables.now) a.lookup.now.body.now.variables (callables_of a.lookup.now.tables.now a.lookup.now.body.now) a.scope.now (map expr_syntax a.items.now)
     ∙ ap (λ r. and_then r (λ bs. Ok (in_order bs)))
-    (stage_ends (resolved_in a.tables.now a.body.now a.scope.now) expr_syntax a.items.now (map expr_tree c.loop-i.es.items) c.loop-i.i c.loop-i.invariant.done c.loop-i-test.false)
+    (stage_ends (resolved_in a.lookup.now.tables.now a.lookup.now.body.now a.scope.now) expr_syntax a.items.now (map expr_tree c.loop-i.es.items) c.loop-i.i c.loop-i.invariant.done c.loop-i-test.false)
 
 pub exprs-returns-in_err-expr-clause-faults : goal.exprs-returns-in_err-expr-clause-faults
 exprs-returns-in_err-expr-clause-faults t c =
@@ -24,17 +24,17 @@ exprs-returns-in_err-expr-clause-faults t c =
     let p = err_from_is_err_and c.from_residual.result c.from_residual.ensures.1 in
     let stop = c.in_err-expr.field-0.0 in
     let x = c.index-items-i.result in
-    let here = subst (λ (s : Scope). IsFirst (resolved_in a.tables.now a.body.now s (expr_syntax x)) stop) c.loop-i.invariant.scope c.in_err-expr.ensures.faults in
+    let here = subst (λ (s : Scope). IsFirst (resolved_in a.lookup.now.tables.now a.lookup.now.body.now s (expr_syntax x)) stop) c.loop-i.invariant.scope c.in_err-expr.ensures.faults in
     rw (p.1, p.2)
-    (exprs_first (known_of a.tables.now) a.body.now.variables (callables_of a.tables.now a.body.now) a.scope.now (map expr_syntax a.items.now) stop
-    (stage_stops (resolved_in a.tables.now a.body.now a.scope.now) expr_syntax a.items.now (map expr_tree c.loop-i.es.items) c.loop-i.i x stop c.loop-i.invariant.done c.loop-i-test.true c.index-items-i.is here))
+    (exprs_first (known_of a.lookup.now.tables.now) a.lookup.now.body.now.variables (callables_of a.lookup.now.tables.now a.lookup.now.body.now) a.scope.now (map expr_syntax a.items.now) stop
+    (stage_stops (resolved_in a.lookup.now.tables.now a.lookup.now.body.now a.scope.now) expr_syntax a.items.now (map expr_tree c.loop-i.es.items) c.loop-i.i x stop c.loop-i.invariant.done c.loop-i-test.true c.index-items-i.is here))
 
 pub field_values-returns-clause-exact : goal.field_values-returns-clause-exact
 field_values-returns-clause-exact t c =
     let a = c.args in
-    parts_each (known_of a.tables.now) a.body.now.variables (callables_of a.tables.now a.body.now) a.scope.now (map field_part a.fields.now)
+    parts_each (known_of a.lookup.now.tables.now) a.lookup.now.body.now.variables (callables_of a.lookup.now.tables.now a.lookup.now.body.now) a.scope.now (map field_part a.fields.now)
     ∙ ap (λ r. and_then r (λ bs. Ok (in_order bs)))
-    (stage_ends (λ (p : FieldPart). resolved_in a.tables.now a.body.now a.scope.now p.part) field_part a.fields.now (map expr_tree c.loop-i.es.items) c.loop-i.i c.loop-i.invariant.done c.loop-i-test.false)
+    (stage_ends (λ (p : FieldPart). resolved_in a.lookup.now.tables.now a.lookup.now.body.now a.scope.now p.part) field_part a.fields.now (map expr_tree c.loop-i.es.items) c.loop-i.i c.loop-i.invariant.done c.loop-i-test.false)
 
 pub field_values-returns-in_err-field_value-clause-faults : goal.field_values-returns-in_err-field_value-clause-faults
 field_values-returns-in_err-field_value-clause-faults t c =
@@ -42,7 +42,7 @@ field_values-returns-in_err-field_value-clause-faults t c =
     let p = err_from_is_err_and c.from_residual.result c.from_residual.ensures.1 in
     let stop = c.in_err-field_value.field-0.0 in
     let x = c.index-fields-i.result in
-    let here = subst (λ (s : Scope). IsFirst (resolved_in a.tables.now a.body.now s (field_part x).part) stop) c.loop-i.invariant.scope c.in_err-field_value.ensures.faults in
+    let here = subst (λ (s : Scope). IsFirst (resolved_in a.lookup.now.tables.now a.lookup.now.body.now s (field_part x).part) stop) c.loop-i.invariant.scope c.in_err-field_value.ensures.faults in
     rw (p.1, p.2)
-    (parts_first (known_of a.tables.now) a.body.now.variables (callables_of a.tables.now a.body.now) a.scope.now (map field_part a.fields.now) stop
-    (stage_stops (λ (p : FieldPart). resolved_in a.tables.now a.body.now a.scope.now p.part) field_part a.fields.now (map expr_tree c.loop-i.es.items) c.loop-i.i x stop c.loop-i.invariant.done c.loop-i-test.true c.index-fields-i.is here))
+    (parts_first (known_of a.lookup.now.tables.now) a.lookup.now.body.now.variables (callables_of a.lookup.now.tables.now a.lookup.now.body.now) a.scope.now (map field_part a.fields.now) stop
+    (stage_stops (λ (p : FieldPart). resolved_in a.lookup.now.tables.now a.lookup.now.body.now a.scope.now p.part) field_part a.fields.now (map expr_tree c.loop-i.es.items) c.loop-i.i x stop c.loop-i.invariant.done c.loop-i-test.true c.index-fields-i.is here))

@@ -8,13 +8,13 @@ use Rattle.um_names.proofs.expr.+expr.Given as goal
 
 abbrev pub invariant-exprs-loop-i : goal.invariant-exprs-loop-i
 invariant-exprs-loop-i l = record {
-  done : Stage (resolved_in l.tables l.body l.fn.scope) expr_syntax l.items (map expr_tree l.es.items) l.i;
+  done : Stage (resolved_in l.lookup.tables.now l.lookup.body.now l.fn.scope) expr_syntax l.items (map expr_tree l.es.items) l.i;
   scope : l.scope ≡ l.fn.scope;
 }
 
 abbrev pub invariant-field_values-loop-i : goal.invariant-field_values-loop-i
 invariant-field_values-loop-i l = record {
-  done : Stage (λ p. resolved_in l.tables l.body l.fn.scope p.part) field_part l.fields (map expr_tree l.es.items) l.i;
+  done : Stage (λ p. resolved_in l.lookup.tables.now l.lookup.body.now l.fn.scope p.part) field_part l.fields (map expr_tree l.es.items) l.i;
   scope : l.scope ≡ l.fn.scope;
 }
 
@@ -33,7 +33,7 @@ abbrev pub decreases-rest_expr : goal.decreases-rest_expr
 decreases-rest_expr l = the_size l.b.now + the_size l.b.now + 2
 
 abbrev pub decreases-full_arm : goal.decreases-full_arm
-decreases-full_arm l = the_size l.b.now + the_size l.b.now + 2
+decreases-full_arm l = the_size l.arm.now.part.now + the_size l.arm.now.part.now + 2
 
 abbrev pub decreases-field_expr : goal.decreases-field_expr
 decreases-field_expr l = the_size l.a.now + the_size l.a.now + 1
@@ -63,7 +63,7 @@ decreases-if_expr l =
 
 abbrev pub decreases-match_expr : goal.decreases-match_expr
 decreases-match_expr l =
-    let size = max (the_size l.l.now) (max (the_size l.a.now) (the_size l.b.now)) in
+    let size = max (the_size l.l.now) (max (the_size l.a.now) (the_size l.arm.now.part.now)) in
     size + size + 3
 
 abbrev pub decreases-exprs : goal.decreases-exprs

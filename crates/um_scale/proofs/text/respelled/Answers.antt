@@ -8,8 +8,8 @@ use Rattle.um_scale.proofs.text.respelled.Goals as goal
 pub loop-k-preserved : goal.loop-k-preserved
 loop-k-preserved c =
     let l = c.loop-k in
-    let bytes = c.args.bytes.now in
-    let numbers = number_at c.args.numbers.now in
+    let bytes = c.args.respelling.now.bytes.now in
+    let numbers = number_at c.args.respelling.now.numbers.now in
     let tokens = c.args.tokens.now in
     let token = c.index-tokens-k.result in
     let below : l.k < length tokens = omega (arith, c.loop-k-test.true) in

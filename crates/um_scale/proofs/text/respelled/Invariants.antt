@@ -3,4 +3,4 @@ use Rattle.um_scale.proofs.RescaledTexts.{IsWritten}
 use Rattle.um_scale.proofs.text.respelled.Given as goal
 
 abbrev pub invariant-loop-k : goal.invariant-loop-k
-invariant-loop-k l = IsWritten l.bytes (number_at l.numbers) l.tokens l.k l.from l.text.items
+invariant-loop-k l = IsWritten l.respelling.bytes.now (number_at l.respelling.numbers.now) l.tokens l.k l.from l.text.items

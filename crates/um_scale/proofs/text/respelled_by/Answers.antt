@@ -6,9 +6,10 @@ use Rattle.um_scale.specs.Spelling.{number_at}
 use Rattle.um_scale.proofs.RescaledTexts.{table_at, table_length, same_text}
 use Rattle.um_scale.proofs.text.respelled_by.Goals as goal
 
-pub respelled-requires-clause-places : goal.respelled-requires-clause-places
-respelled-requires-clause-places c =
-    ap length (c.deref.ensures.value ∙ c.in_ok-numbers.ensures) ∙ table_length (length c.args.bytes.now + 1) (literals_of (map function_tree c.args.functions.now))
+pub invariant_of-respelling : goal.invariant_of-respelling
+invariant_of-respelling c = record {
+  places = ap length (c.deref.ensures.value ∙ c.in_ok-numbers.ensures) ∙ table_length (length c.args.bytes.now + 1) (literals_of (map function_tree c.args.functions.now));
+}
 
 pub returns : goal.returns
 returns c =

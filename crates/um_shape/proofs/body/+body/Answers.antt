@@ -7,7 +7,7 @@ use Rattle.um_shape.proofs.body.+body.Goals as goal
 
 pub shapes_of-loop-i-init : goal.shapes_of-loop-i-init
 shapes_of-loop-i-init t c =
-    let known = c.args.known.now in
+    let known = c.args.body.now.known.now in
     let records = known_records known.records.items in
     let heads = heads_shapes known.heads.items in
     let vars = c.args.scope.now.items in
@@ -16,7 +16,7 @@ shapes_of-loop-i-init t c =
 pub shapes_of-shape_of-requires-in-loop-i : goal.shapes_of-shape_of-requires-in-loop-i
 shapes_of-shape_of-requires-in-loop-i t c =
     let es = c.args.parts.now in
-    let known = c.args.known.now in
+    let known = c.args.body.now.known.now in
     let i = c.loop-i.i in
     let below : i < length es = omega (arith, c.loop-i-test.true) in
     let falls = at_most the_size es i c.index-parts-i.result below in
@@ -26,7 +26,7 @@ shapes_of-shape_of-requires-in-loop-i t c =
 pub shapes_of-returns-in_err-shape_of-clause-found : goal.shapes_of-returns-in_err-shape_of-clause-found
 shapes_of-returns-in_err-shape_of-clause-found t c =
     let es = c.args.parts.now in
-    let known = c.args.known.now in
+    let known = c.args.body.now.known.now in
     let i = c.loop-i.i in
     let below : i < length es = omega (arith, c.loop-i-test.true) in
     let stops = left_stops (known_records known.records.items) (heads_shapes known.heads.items) c.args.scope.now.items es i c.index-parts-i.result c.loop-i.shapes.items c.loop-i.scope.items c.in_err-shape_of.field-0.0 below c.index-parts-i.is c.loop-i.invariant c.in_err-shape_of.ensures.found in
@@ -35,7 +35,7 @@ shapes_of-returns-in_err-shape_of-clause-found t c =
 pub shapes_of-loop-i-preserved : goal.shapes_of-loop-i-preserved
 shapes_of-loop-i-preserved t c =
     let es = c.args.parts.now in
-    let known = c.args.known.now in
+    let known = c.args.body.now.known.now in
     let i = c.loop-i.i in
     let below : i < length es = omega (arith, c.loop-i-test.true) in
     let next = left_next (known_records known.records.items) (heads_shapes known.heads.items) c.args.scope.now.items es i c.index-parts-i.result c.loop-i.shapes.items c.loop-i.scope.items c.shape_of.new.scope.items c.in_ok-shape_of.field-0 below c.index-parts-i.is c.loop-i.invariant c.in_ok-shape_of.ensures.found c.in_ok-shape_of.ensures.scope in
@@ -44,7 +44,7 @@ shapes_of-loop-i-preserved t c =
 
 pub shapes_of-returns-clause-found : goal.shapes_of-returns-clause-found
 shapes_of-returns-clause-found t c =
-    let known = c.args.known.now in
+    let known = c.args.body.now.known.now in
     left_last (known_records known.records.items) (heads_shapes known.heads.items) c.args.scope.now.items c.args.parts.now c.loop-i.i c.loop-i.shapes.items c.loop-i.scope.items (omega (arith, c.loop-i-test.false)) c.loop-i.invariant
 
 pub shapes_of-returns-clause-scope : goal.shapes_of-returns-clause-scope

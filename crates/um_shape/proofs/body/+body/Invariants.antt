@@ -6,7 +6,7 @@ use Rattle.um_shape.proofs.body.+body.Given as goal
 
 abbrev pub invariant-shapes_of-loop-i : goal.invariant-shapes_of-loop-i
 invariant-shapes_of-loop-i l =
-    IsLeft (known_records l.known.records.items) (heads_shapes l.known.heads.items) l.fn.scope.items l.parts l.i l.shapes.items l.scope.items
+    IsLeft (known_records l.body.known.now.records.items) (heads_shapes l.body.known.now.heads.items) l.fn.scope.items l.parts l.i l.shapes.items l.scope.items
 
 abbrev pub decreases-asked_shape : goal.decreases-asked_shape
 decreases-asked_shape l = the_size l.a.now + 1

@@ -11,15 +11,15 @@ use Rattle.um_verifier.proofs.body.verify_body.Goals as goal
 
 pub pass-requires-clause-low : goal.pass-requires-clause-low
 pass-requires-clause-low c =
-    let known = c.args.known.now in
-    let view = known_view known c.args.code.now in
+    let known = c.args.view.now.known.now in
+    let view = known_view known c.args.view.now.code.now in
     let body = known_body c.args.entry c.args.head.now in
     let taken : met_of c.take_met-met.result ≡ met view body (body.start + c.loop-n.n) c.loop-n.n = taken_is view body c.loop-n.table.items c.loop-n.n (met_of c.take_met-met.result) c.loop-n.invariant c.loop-n-test.true c.take_met-met.ensures.taken in
     is_low_met known c.take_met-met.result (subst (LowMet (known_heights known)) (sym taken) (met_low view body c.requires.low (body.start + c.loop-n.n) c.loop-n.n))
 
 pub loop-n-preserved : goal.loop-n-preserved
 loop-n-preserved c =
-    let view = known_view c.args.known.now c.args.code.now in
+    let view = known_view c.args.view.now.known.now c.args.view.now.code.now in
     let body = known_body c.args.entry c.args.head.now in
     let n = c.loop-n.n in
     let taken : met_of c.take_met-met.result ≡ met view body (body.start + n) n = taken_is view body c.loop-n.table.items n (met_of c.take_met-met.result) c.loop-n.invariant c.loop-n-test.true c.take_met-met.ensures.taken in

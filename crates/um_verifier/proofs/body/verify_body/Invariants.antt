@@ -3,4 +3,4 @@ use Rattle.um_verifier.proofs.Loop.{TableIs}
 use Rattle.um_verifier.proofs.body.verify_body.Given as goal
 
 abbrev pub invariant-loop-n : goal.invariant-loop-n
-invariant-loop-n l = TableIs (known_view l.known l.code) (known_body l.entry l.head) l.table.items l.n
+invariant-loop-n l = TableIs (known_view l.view.known.now l.view.code.now) (known_body l.entry l.head) l.table.items l.n

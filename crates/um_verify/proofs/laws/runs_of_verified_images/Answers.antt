@@ -1,4 +1,4 @@
-use Rattle.um_verify.proofs.Ends.{never_stuck, runs_end, ends_soon, ends_have_shape, calls_have_entries}
+use Rattle.um_verify.proofs.Ends.{never_stuck, runs_end, ends_soon, ends_have_shape, calls_have_entries, forward}
 use Rattle.um_verify.proofs.laws.runs_of_verified_images.Goals as goal
 
 pub returns-clause-never_stuck : goal.returns-clause-never_stuck
@@ -15,3 +15,6 @@ returns-clause-shape c = ends_have_shape
 
 pub returns-clause-entry : goal.returns-clause-entry
 returns-clause-entry c = calls_have_entries
+
+pub returns-clause-forward : goal.returns-clause-forward
+returns-clause-forward c = forward

@@ -1,5 +1,0 @@
-pub mod ImagePrograms
-mod HeadNames
-pub mod ImageCallLaws
-mod PlainCopies
-mod Examples

@@ -1,5 +1,0 @@
-use Rattle.um_image_run.proofs.HeadNames.{AreOthers}
-use Rattle.um_image_run.proofs.head.head_named.Given as goal
-
-abbrev pub invariant-loop-k : goal.invariant-loop-k
-invariant-loop-k l = AreOthers l.heads l.name l.k

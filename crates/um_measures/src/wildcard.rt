@@ -1,0 +1,25 @@
+//! The wildcard on a number.
+
+ghost use Rattle.std.specs.Prelude.{◌≡◌, Ok, IfOk, IfErr};
+ghost use Rattle.um_measures.specs.Stops.{IsFirst};
+ghost use Rattle.um_measures.specs.Wildcards.{open_unit as unit_left_open};
+
+use crate::stop::NameStop;
+use um_frac::Frac;
+use um_tree::UnitNote;
+
+/// The unit of a number with the wildcard, as `0<_>`: it stays open. `at` is the place of the number.
+///
+/// # Errors
+///
+/// `Hole` at the place if the number isn't 0: 0 alone has every unit (F# specification, Units Of Measure).
+pub fn open_unit(number: Frac, at: u32) -> Result<UnitNote, NameStop>
+    ensures exact { IfOk result (λ unit. unit_left_open number at ≡ Ok unit) }
+    ensures faults { IfErr result (IsFirst (unit_left_open number at)) }
+{
+    if number.num() == 0 {
+        Ok(UnitNote::Hole)
+    } else {
+        Err(NameStop::Hole { at })
+    }
+}
