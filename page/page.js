@@ -6,8 +6,8 @@
 const COMMANDS = {
   types: ["", "the type of each function"],
   run: ["BUDGET NAME ARG..", "the value of a call, by the compiled code"],
-  twin: ["BUDGET SCALES NAME ARG..", "the value of a call, and that of the same call in other sizes of the units"],
-  rescale: ["SCALES", "the program in other sizes of its units, as m=100,s=1000"],
+  twin: ["BUDGET SIZES NAME ARG..", "the value of a call, and that of the same call in other sizes of the units"],
+  rescale: ["SIZES", "the program in other sizes of its units, as m=100,s=1000"],
   conform: ["NAME TYPE", "whether a function may be used at a type"],
   fmt: ["", "the program in its layout"],
   code: ["", "the compiled code"],

@@ -11,7 +11,10 @@ use Rattle.um_image.specs.ProgramImage.{IsHeadOf, IsImageOf}
 use Rattle.um_reports.specs.declared.status.Status.{Status}
 use Rattle.um_reports.specs.declared.status.Status.TheVariants.{Done}
 use Rattle.um_reports.proofs.ReportStatuses.{is_answered}
-use Rattle.um_answers.specs.ImageAnswer.{ImageAnswer}
+use Rattle.um_parse.specs.Laws.{AnswersAreUnique}
+use Rattle.um_front.specs.Stages.{CheckedTree, IsCheckedText}
+use Rattle.um_front.proofs.StageLaws.{checked_given, checked_answered, checked_once}
+use Rattle.um_answers.specs.ImageAnswer.{ImageAnswer, IsImageReply}
 
 -- lists of one length with the same items are one
 same_items : {A : Type 0} (xs ys : List A) → length xs ≡ length ys → ((i : ℕ) (x y : A) → slice_get xs i ≡ Some x → slice_get ys i ≡ Some y → x ≡ y) → xs ≡ ys
@@ -37,15 +40,26 @@ one_image_of p code image other a b =
     let heads = same_items image.heads other.heads (a.count ∙ sym b.count) (λ i h g x y. one_head p i h g (a.heads i h x) (b.heads i g y)) in
     λ k. record { records = records k; heads = heads k; code = same_code k }
 
-pub image_one : (text other : List ℕ) (status another : Status) (p : ProgramTree) → ImageAnswer p text status → ImageAnswer p other another → (text ≡ other) × (status ≡ another)
-unfolding ImageAnswer
-image_one text other status another p (image, is, a) (found, also, b) =
-    (a.0 ∙ ap image_bytes (one_image_of p (program_code p.functions) image found is also) ∙ sym b.0, a.1 ∙ sym b.1)
+image_once : (text other : List ℕ) (status another : Status) (c : CheckedTree) → IsImageReply c text status → IsImageReply c other another → (text ≡ other) × (status ≡ another)
+unfolding IsImageReply
+image_once text other status another c (image, is, a) (found, also, b) =
+    (a.0 ∙ ap image_bytes (one_image_of c.text.program (program_code c.text.program.functions) image found is also) ∙ sym b.0, a.1 ∙ sym b.1)
 
-pub ImageAnswer-status : (p : ProgramTree) (text : List ℕ) (status : Status) → ImageAnswer p text status → IsTrue (is_answered status)
+pub image_one : (text other : List ℕ) (status another : Status) → AnswersAreUnique → (bytes : List ℕ) → ImageAnswer bytes text status → ImageAnswer bytes other another → (text ≡ other) × (status ≡ another)
 unfolding ImageAnswer
-ImageAnswer-status p text status (image, is, reply) = rw reply.1 refl
+image_one text other status another one bytes a b = checked_once IsImageReply bytes text status other another one (λ c is. image_once text other status another c) a b
 
-pub image_done : (p : ProgramTree) (text : List ℕ) (status : Status) → ImageAnswer p text status → status ≡ Done
+image_reply : (c : CheckedTree) (text : List ℕ) (status : Status) → IsImageReply c text status → status ≡ Done
+unfolding IsImageReply
+image_reply c text status (image, is, reply) = reply.1
+
+image_status : (c : CheckedTree) (text : List ℕ) (status : Status) → IsImageReply c text status → IsTrue (is_answered status)
+image_status c text status reply = rw (image_reply c text status reply) refl
+
+pub ImageAnswer-status : (bytes text : List ℕ) (status : Status) → ImageAnswer bytes text status → IsTrue (is_answered status)
 unfolding ImageAnswer
-image_done p text status (image, is, reply) = reply.1
+ImageAnswer-status bytes text status answer = checked_answered IsImageReply bytes text status (λ c. image_status c text status) answer
+
+pub image_done : (bytes text : List ℕ) (status : Status) (c : CheckedTree) → IsCheckedText bytes c → ImageAnswer bytes text status → status ≡ Done
+unfolding ImageAnswer
+image_done bytes text status c is answer = image_reply c text status (checked_given IsImageReply bytes text status c is answer)

@@ -1,20 +1,9 @@
-mod AskedWords
 mod CodeEntries
-mod DifferentTexts
-mod LastCall
 mod SchemesGiven
 mod SchemesPrinted
-mod CallsDone
-pub mod ConformsDone
-mod UniqueReplies
-mod BigAnswers
 mod ShortNames
-mod ImageAnswers
-pub mod ExecAnswers
-mod RescaleAnswers
-mod TwinAnswers
-mod TwinDone
-pub mod TwinArguments
-pub mod TypedStatuses
-pub mod TypedDone
-pub mod UniqueTyped
+pub mod ConformsDone
+pub mod ConformAnswers
+pub mod ImageAnswers
+pub mod RescaleAnswers
+pub mod TextAnswers

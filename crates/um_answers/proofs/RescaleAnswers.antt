@@ -1,4 +1,4 @@
--- The answer to `rescale` is one, is done where the word states sizes of base units and each literal fits, and has no
+-- The answer to `rescale` is one, is done if the word states sizes of base units and each literal fits, and has no
 -- status of a fault.
 use Rattle.std.proofs.Common.{◌≡◌, ◌⊎◌, ℕ, List, IsTrue, MatchOption, Option, Result, Ok, Err, Some, None, inl, inr, refl, sym, subst, ◌∙◌}
 use Rattle.um_frac.specs.declared.number.Frac.{Frac}
@@ -7,21 +7,19 @@ use Rattle.um_scale.specs.RescaledLiterals.{misfit_in, rescaled_program}
 use Rattle.um_scale.specs.RescaledText.{IsRescaledText}
 use Rattle.um_scale.proofs.RescaledTexts.{texts_are_unique}
 use Rattle.um_sizes.specs.declared.read.ScalesRefusal.{ScalesRefusal}
-use Rattle.um_sizes.specs.declared.read.ScalesRefusal.TheVariants.{NoBaseUnit, NoMemory}
+use Rattle.um_sizes.specs.declared.read.ScalesRefusal.TheVariants.{NoMemory}
 use Rattle.um_sizes.proofs.UniqueSizes.{scales_are_unique}
 use Rattle.um_reports.specs.declared.status.Status.{Status}
 use Rattle.um_reports.specs.declared.status.Status.TheVariants.{Done}
 use Rattle.um_reports.specs.ScaleRefusals.{IsLiteralReply}
-use Rattle.um_reports.proofs.ReportStatuses.{is_answered}
-use Rattle.um_answers.specs.Asked.{Asked, rescale_sizes}
-use Rattle.um_answers.specs.RescaleAnswer.{LiteralsAnswer, IsSizesReply, BySizes, RescaleAnswer}
+use Rattle.um_reports.proofs.ReportStatuses.{is_answered, sizes_reply, one_sizes_reply}
+use Rattle.um_parse.specs.Laws.{AnswersAreUnique}
+use Rattle.um_front.specs.Stages.{CheckedTree, IsCheckedText}
+use Rattle.um_front.proofs.StageLaws.{checked_given, checked_answered, checked_once}
+use Rattle.um_answers.specs.RescaleAnswer.{LiteralsAnswer, BySizes, IsRescaled, RescaleAnswer}
 use Rattle.um_answers.specs.Passing.{HasSizes}
 
 -- ---- statuses
-
-pub sizes_reply : (refused : ScalesRefusal) (text : List ℕ) (status : Status) → IsSizesReply refused text status → IsTrue (is_answered status)
-sizes_reply NoBaseUnit text status reply = rw reply.1 refl
-sizes_reply NoMemory text status reply = absurd reply
 
 literals_status : (cs : List Frac) (bytes : List ℕ) (p : ProgramTree) (text : List ℕ) (status : Status) → LiteralsAnswer cs bytes p text status → IsTrue (is_answered status)
 unfolding LiteralsAnswer
@@ -34,18 +32,18 @@ by_sizes_status : (bytes : List ℕ) (p : ProgramTree) (r : Result (List Frac) S
 by_sizes_status bytes p (Ok cs) text status answer = literals_status cs bytes p text status answer
 by_sizes_status bytes p (Err refused) text status reply = sizes_reply refused text status reply
 
-pub RescaleAnswer-status : (asked : Asked) (p : ProgramTree) (text : List ℕ) (status : Status) → RescaleAnswer asked p text status → IsTrue (is_answered status)
+rescaled_status : (word bytes : List ℕ) (c : CheckedTree) (text : List ℕ) (status : Status) → IsRescaled word bytes c text status → IsTrue (is_answered status)
+unfolding IsRescaled
+rescaled_status word bytes c text status (r, read, answer) = by_sizes_status bytes c.text.program r text status answer
+
+pub RescaleAnswer-status : (word bytes text : List ℕ) (status : Status) → RescaleAnswer word bytes text status → IsTrue (is_answered status)
 unfolding RescaleAnswer
-RescaleAnswer-status asked p text status (r, read, answer) = by_sizes_status asked.bytes p r text status answer
+RescaleAnswer-status word bytes text status answer = checked_answered (IsRescaled word bytes) bytes text status (λ c. rescaled_status word bytes c text status) answer
 
 -- ---- one answer
 module _ (text other : List ℕ) (status another : Status) where
   abbrev AreSame : Type 0
   AreSame = (text ≡ other) × (status ≡ another)
-
-  pub one_sizes_reply : (refused : ScalesRefusal) → IsSizesReply refused text status → IsSizesReply refused other another → AreSame
-  one_sizes_reply NoBaseUnit a b = (a.0 ∙ sym b.0, a.1 ∙ sym b.1)
-  one_sizes_reply NoMemory a b = absurd a
 
   literals_one : (cs : List Frac) (bytes : List ℕ) (p : ProgramTree) → LiteralsAnswer cs bytes p text status → LiteralsAnswer cs bytes p other another → AreSame
   unfolding LiteralsAnswer
@@ -57,16 +55,20 @@ module _ (text other : List ℕ) (status another : Status) where
 
   by_sizes_one : (bytes : List ℕ) (p : ProgramTree) (r : Result (List Frac) ScalesRefusal) → BySizes bytes p r text status → BySizes bytes p r other another → AreSame
   by_sizes_one bytes p (Ok cs) a b = literals_one cs bytes p a b
-  by_sizes_one bytes p (Err refused) a b = one_sizes_reply refused a b
+  by_sizes_one bytes p (Err refused) a b = one_sizes_reply text other status another refused a b
 
   sizes_one : (bytes : List ℕ) (p : ProgramTree) (r q : Result (List Frac) ScalesRefusal) → (r ≡ q) ⊎ ((r ≡ Err NoMemory) ⊎ (q ≡ Err NoMemory)) → BySizes bytes p r text status → BySizes bytes p q other another → AreSame
   sizes_one bytes p r q (inl same) a b = by_sizes_one bytes p q (subst (λ x. BySizes bytes p x text status) same a) b
   sizes_one bytes p r q (inr (inl wanting)) a b = absurd (subst (λ x. BySizes bytes p x text status) wanting a)
   sizes_one bytes p r q (inr (inr wanting)) a b = absurd (subst (λ x. BySizes bytes p x other another) wanting b)
 
-  pub rescale_one : (asked : Asked) (p : ProgramTree) → RescaleAnswer asked p text status → RescaleAnswer asked p other another → AreSame
+  rescaled_once : (word bytes : List ℕ) (c : CheckedTree) → IsRescaled word bytes c text status → IsRescaled word bytes c other another → AreSame
+  unfolding IsRescaled
+  rescaled_once word bytes c (r, read, a) (q, also, b) = sizes_one bytes c.text.program r q (scales_are_unique c.text.program.bases word r q read also) a b
+
+  pub rescale_one : AnswersAreUnique → (word bytes : List ℕ) → RescaleAnswer word bytes text status → RescaleAnswer word bytes other another → AreSame
   unfolding RescaleAnswer
-  rescale_one asked p (r, read, a) (q, also, b) = sizes_one asked.bytes p r q (scales_are_unique p.bases (rescale_sizes asked.words) r q read also) a b
+  rescale_one one word bytes a b = checked_once (IsRescaled word bytes) bytes text status other another one (λ c is. rescaled_once word bytes c) a b
 
 -- ---- done
 literals_done : (cs : List Frac) (bytes : List ℕ) (p : ProgramTree) (text : List ℕ) (status : Status) → misfit_in cs p.functions ≡ None → LiteralsAnswer cs bytes p text status → status ≡ Done
@@ -80,7 +82,12 @@ module _ (cs : List Frac) (bytes : List ℕ) (p : ProgramTree) (text : List ℕ)
   sized_done r (inr (inl wrong)) answer = absurd (cc wrong)
   sized_done r (inr (inr wanting)) answer = absurd (subst (λ x. BySizes bytes p x text status) wanting answer)
 
-pub rescale_done : (asked : Asked) (p : ProgramTree) (text : List ℕ) (status : Status) → HasSizes (rescale_sizes asked.words) p → RescaleAnswer asked p text status → status ≡ Done
-unfolding RescaleAnswer
-rescale_done asked p text status h (r, read, answer) =
-    sized_done h.scales asked.bytes p text status h.literals r (scales_are_unique p.bases (rescale_sizes asked.words) (Ok h.scales) r h.read read) answer
+module _ (word bytes : List ℕ) (c : CheckedTree) (is : IsCheckedText bytes c) (h : HasSizes word c.text.program) (text : List ℕ) (status : Status) where
+  rescaled_done : IsRescaled word bytes c text status → status ≡ Done
+  unfolding IsRescaled
+  rescaled_done (r, read, answer) =
+      sized_done h.scales bytes c.text.program text status h.literals r (scales_are_unique c.text.program.bases word (Ok h.scales) r h.read read) answer
+
+  pub rescale_done : RescaleAnswer word bytes text status → status ≡ Done
+  unfolding RescaleAnswer
+  rescale_done answer = rescaled_done (checked_given (IsRescaled word bytes) bytes text status c is answer)

@@ -4,7 +4,7 @@ use Rattle.std.proofs.lemmas.List.{append-nil}
 use Rattle.um_tree.specs.ProgramTree.{FunctionTree, ProgramTree, SchemeTree}
 use Rattle.um_show.specs.SchemeText.{scheme_text}
 use Rattle.um_reports.specs.Steps.{line}
-use Rattle.um_answers.specs.SchemeLines.{scheme_lines}
+use Rattle.um_answers.specs.TypesAnswer.{scheme_lines}
 
 pub one_more_line : (p : ProgramTree) (fs : List FunctionTree) (ss : List SchemeTree) (f : FunctionTree) (s : SchemeTree) → length fs ≡ length ss → scheme_lines p (fs ++ f ∷ []) (ss ++ s ∷ []) ≡ scheme_lines p fs ss ++ line (scheme_text p f.name s)
 one_more_line p [] [] f s same = append-nil (line (scheme_text p f.name s))

@@ -1,13 +1,11 @@
 -- The names of a program are short: none is longer than its text.
-use Rattle.std.proofs.Common.{◌≡◌, ℕ, ◌≤◌, List, length, Ok, arith}
+use Rattle.std.proofs.Common.{ℕ, ◌≤◌, List, length, arith}
 use Rattle.std.specs.Prelude.{All}
 use Rattle.std.proofs.lemmas.List.Elements.{All-weaker}
-use Rattle.um_tree.specs.ProgramTree.{FieldTree, RecordTree, FunctionTree, ProgramTree}
-use Rattle.um_tree.specs.RawTree.{DeclSyntax}
-use Rattle.um_names.specs.Resolution.{resolved_program}
+use Rattle.um_tree.specs.ProgramTree.{FieldTree, RecordTree, FunctionTree}
 use Rattle.um_readable.proofs.NamesWithin.{names_within}
 use Rattle.um_image.specs.Laws.{IsShortName, HasShortNames}
-use Rattle.um_answers.specs.Asking.{IsWrittenProgram}
+use Rattle.um_front.specs.Stages.{ShapedTree, IsShapedText}
 
 module _ (bytes : List ℕ) (few : length bytes ≤ 1048576) where
   short : (name : List ℕ) → length name ≤ length bytes → IsShortName name
@@ -22,11 +20,11 @@ module _ (bytes : List ℕ) (few : length bytes ≤ 1048576) where
   short_function : (f : FunctionTree) → length f.name ≤ length bytes → IsShortName f.name
   short_function f h = short f.name h
 
-pub short_names : (bytes : List ℕ) (raw : List DeclSyntax) (p : ProgramTree) → IsWrittenProgram bytes raw → resolved_program raw ≡ Ok p → HasShortNames p
-short_names bytes raw p written resolved =
+pub short_names : (bytes : List ℕ) (s : ShapedTree) → IsShapedText bytes s → HasShortNames s.program
+short_names bytes s is =
     let n = length bytes in
-    let few = written.text.short in
-    let within = names_within bytes written.text.tokens raw p written.text.lexed written.read resolved in record {
-      records = All-weaker (λ (d : RecordTree). (length d.name ≤ n) × All (λ (f : FieldTree). length f.name ≤ n) d.fields) (λ (d : RecordTree). IsShortName d.name × All (λ (f : FieldTree). IsShortName f.name) d.fields) (short_record bytes few) p.records within.records;
-      functions = All-weaker (λ (f : FunctionTree). length f.name ≤ n) (λ (f : FunctionTree). IsShortName f.name) (short_function bytes few) p.functions within.functions;
+    let few = is.written.short in
+    let within = names_within bytes is.written.tokens s.raw s.program is.written.lexed is.written.read is.resolved in record {
+      records = All-weaker (λ (d : RecordTree). (length d.name ≤ n) × All (λ (f : FieldTree). length f.name ≤ n) d.fields) (λ (d : RecordTree). IsShortName d.name × All (λ (f : FieldTree). IsShortName f.name) d.fields) (short_record bytes few) s.program.records within.records;
+      functions = All-weaker (λ (f : FunctionTree). length f.name ≤ n) (λ (f : FunctionTree). IsShortName f.name) (short_function bytes few) s.program.functions within.functions;
     }

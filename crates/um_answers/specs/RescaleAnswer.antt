@@ -6,12 +6,12 @@ use Rattle.um_tree.specs.ProgramTree.{ProgramTree}
 use Rattle.um_scale.specs.RescaledLiterals.{misfit_in, rescaled_program}
 use Rattle.um_scale.specs.RescaledText.{IsRescaledText}
 use Rattle.um_sizes.specs.declared.read.ScalesRefusal.{ScalesRefusal}
-use Rattle.um_sizes.specs.declared.read.ScalesRefusal.TheVariants.{NoBaseUnit, NoMemory}
 use Rattle.um_sizes.specs.BaseSizes.{AreScalesRead}
 use Rattle.um_reports.specs.declared.status.Status.{Status}
 use Rattle.um_reports.specs.declared.status.Status.TheVariants.{Done}
-use Rattle.um_reports.specs.ScaleRefusals.{IsNoBaseReply, IsLiteralReply}
-use Rattle.um_answers.specs.Asked.{Asked, rescale_sizes}
+use Rattle.um_reports.specs.ScaleRefusals.{IsSizesReply, IsLiteralReply}
+use Rattle.um_front.specs.Stages.{CheckedTree}
+use Rattle.um_front.specs.Staged.{OfChecked}
 
 -- the text with its literals rescaled; or the first, in the order of the text, of which no rescaled number is in range
 unfoldable pub LiteralsAnswer : List Frac → List ℕ → ProgramTree → List ℕ → Status → Type 0
@@ -20,17 +20,16 @@ LiteralsAnswer cs bytes p text status =
     (IsRescaledText bytes (rescaled_program cs p) text × (status ≡ Done))
     (λ at. IsLiteralReply bytes at text status)
 
--- the base units have no such sizes; want of memory has no line
-abbrev pub IsSizesReply : ScalesRefusal → List ℕ → Status → Type 0
-IsSizesReply NoBaseUnit text status = IsNoBaseReply text status
-IsSizesReply NoMemory text status = ⊥
-
 -- by the sizes of the base units
 abbrev pub BySizes : List ℕ → ProgramTree → Result (List Frac) ScalesRefusal → List ℕ → Status → Type 0
 BySizes bytes p (Ok cs) text status = LiteralsAnswer cs bytes p text status
 BySizes bytes p (Err refusal) text status = IsSizesReply refusal text status
 
-unfoldable pub RescaleAnswer : Asked → ProgramTree → List ℕ → Status → Type 0
-RescaleAnswer asked p text status =
-    (r : Result (List Frac) ScalesRefusal) × AreScalesRead p.bases (rescale_sizes asked.words) r
-    × BySizes asked.bytes p r text status
+unfoldable pub IsRescaled : List ℕ → List ℕ → CheckedTree → List ℕ → Status → Type 0
+IsRescaled word bytes c text status =
+    (r : Result (List Frac) ScalesRefusal) × AreScalesRead c.text.program.bases word r
+    × BySizes bytes c.text.program r text status
+
+-- of a text's program
+unfoldable pub RescaleAnswer : List ℕ → List ℕ → List ℕ → Status → Type 0
+RescaleAnswer word bytes text status = OfChecked (IsRescaled word bytes) bytes text status

@@ -1,26 +1,22 @@
-//! What each order asks of a program whose functions have their schemes, and the answer to it.
+//! The answers to orders about the program of a text: a file each.
 //!
 //! ```
-//! let asked = Asked { order, words: &words, bytes, raw: &raw };
-//! let reply = answer_typed(alloc, &asked, &shaped, &schemes)?; // the text to write, and the status
+//! let reply = answer_types(alloc, text)?; // the text to write, and the status
 //! ```
 #![tactic(auto)]
 
-mod arguments;
-mod asked;
-mod big;
-mod call;
+mod code;
+mod conform;
+mod fmt;
 mod image;
-pub mod laws;
+mod prove;
 mod rescale;
-mod schemes;
-mod signature;
-mod twin;
-mod twin_outcome;
-mod typed;
-mod way;
+mod types;
 
-pub use asked::Asked;
-pub use image::answer_exec;
-pub use typed::{answer_typed, reply_layout};
-pub use way::Way;
+pub use code::answer_code;
+pub use conform::answer_conform;
+pub use fmt::answer_fmt;
+pub use image::answer_image;
+pub use prove::answer_prove;
+pub use rescale::answer_rescale;
+pub use types::answer_types;

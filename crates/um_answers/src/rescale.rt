@@ -1,93 +1,88 @@
-// The answer about a program in other sizes of its base units.
-ghost use Rattle.std.specs.Prelude.{◌≡◌, ◌≤◌, IfOk, IsTrue, length};
+// The answer to `rescale`: a program in other sizes of its base units.
+ghost use Rattle.std.specs.Prelude.{◌≡◌, IfOk, IsTrue};
 ghost use Rattle.um_tree.specs.ProgramTree.{program_tree};
+ghost use Rattle.um_tree.specs.RawTree.{DeclSyntax};
 ghost use Rattle.um_scale.specs.RescaledText.{IsRescaledText};
 ghost use Rattle.um_sizes.specs.ScaleWords.{is_scales};
-ghost use Rattle.um_answers.specs.Asked.{rescale_sizes};
-ghost use Rattle.um_answers.specs.Asking.{asked_of, IsWrittenText};
-ghost use Rattle.um_answers.specs.RescaleAnswer.{RescaleAnswer, LiteralsAnswer, IsSizesReply};
+ghost use Rattle.um_front.specs.Parts.{checked_tree};
+ghost use Rattle.um_front.specs.Stages.{IsReadText};
+ghost use Rattle.um_answers.specs.RescaleAnswer.{RescaleAnswer, IsRescaled, LiteralsAnswer};
 
-use crate::asked::Asked;
 use std::alloc::{AllocError, Global};
 use std::str;
-use um_reports::{Reply, Status, reply_to_literal, reply_to_no_base};
+use um_front::{Answer, Checked, Text, check};
+use um_reports::{Reply, Status, reply_to_literal, reply_to_sizes};
 use um_scale::{ScaleStop, Scales, rescale_program, rescale_text};
-use um_shape::Shaped;
-use um_sizes::{ScalesRefusal, read_scales};
+use um_sizes::read_scales;
 use um_tree::Program;
 
-/// The answer to an order that rescales the text of a program.
+/// The answer to `rescale` about a text, in the sizes of base units that the word states.
+///
+/// Want of memory is the one error; each refusal is an answer. How literals are rescaled is Kennedy's (1997).
 #[tactic(auto, unfolding(crate::specs::RescaleAnswer::RescaleAnswer))]
-pub(crate) fn answer_rescale(
-    alloc: Global,
-    asked: &Asked,
-    shaped: &Shaped,
-) -> Result<Reply, AllocError>
-    requires words { 2 ≤ length asked.now.words.now }
-    requires stated { IsTrue (is_scales (rescale_sizes asked.now.words.now)) }
-    requires written { IsWrittenText asked.now.bytes.now }
-    ensures { IfOk result (λ reply. RescaleAnswer (asked_of asked.now) (program_tree shaped.now)
+pub fn answer_rescale(alloc: Global, sizes: &str, text: Text) -> Answer
+    requires stated { IsTrue (is_scales sizes.now) }
+    ensures { IfOk result (λ reply. RescaleAnswer sizes.now text reply.text.items reply.status) }
+{
+    match check(alloc, text) {
+        Ok(checked) => answer_whole(alloc, sizes, checked),
+        Err(refused) => refused,
+    }
+}
+
+/// The answer in a program with its schemes.
+fn answer_whole(alloc: Global, sizes: &str, checked: Checked) -> Answer
+    requires stated { IsTrue (is_scales sizes.now) }
+    ensures { IfOk result (λ reply. IsRescaled sizes.now checked.text.text.bytes.items (checked_tree checked)
         reply.text.items reply.status) }
 {
-    let program = shaped.program();
-    match read_scales(alloc, asked.words.word(1), program) {
-        Ok(scales) => answer_sized(alloc, asked.bytes, program, scales),
+    let answer = answer_checked(alloc, sizes, &checked);
+    drop(checked);
+    answer
+}
+
+/// The same, and the program is kept.
+#[tactic(auto, unfolding(crate::specs::RescaleAnswer::IsRescaled))]
+fn answer_checked(alloc: Global, sizes: &str, checked: &Checked) -> Answer
+    requires stated { IsTrue (is_scales sizes.now) }
+    ensures { IfOk result (λ reply. IsRescaled sizes.now checked.now.text.text.bytes.items
+        (checked_tree checked.now) reply.text.items reply.status) }
+{
+    match read_scales(alloc, sizes, checked.program()) {
+        Ok(scales) => answer_sized(alloc, checked, scales),
         Err(refusal) => reply_to_sizes(alloc, refusal),
     }
 }
 
-/// The refusal of sizes.
-pub(crate) fn reply_to_sizes(alloc: Global, refusal: ScalesRefusal) -> Result<Reply, AllocError>
-    ensures { IfOk result (λ reply. IsSizesReply refusal reply.text.items reply.status) }
-{
-    match refusal {
-        ScalesRefusal::NoBaseUnit => reply_to_no_base(alloc),
-        ScalesRefusal::NoMemory => Err(AllocError),
-    }
-}
-
 /// The answer by the sizes of the base units.
-fn answer_sized(
-    alloc: Global,
-    bytes: &[u8],
-    program: &Program,
-    scales: Scales,
-) -> Result<Reply, AllocError>
-    requires written { IsWrittenText bytes.now }
-    ensures { IfOk result (λ reply. LiteralsAnswer scales bytes.now (program_tree program.now)
-        reply.text.items reply.status) }
+fn answer_sized(alloc: Global, checked: &Checked, scales: Scales) -> Answer
+    ensures { IfOk result (λ reply. LiteralsAnswer scales checked.now.text.text.bytes.items
+        (program_tree checked.now.text.shaped) reply.text.items reply.status) }
 {
-    let answer = answer_literals(alloc, bytes, program, &scales);
+    let answer = answer_literals(alloc, checked, &scales);
     drop(scales);
     answer
 }
 
 /// The text with its literals rescaled, or the first that doesn't fit.
 #[tactic(auto, unfolding(crate::specs::RescaleAnswer::LiteralsAnswer))]
-fn answer_literals(
-    alloc: Global,
-    bytes: &[u8],
-    program: &Program,
-    scales: &Scales,
-) -> Result<Reply, AllocError>
-    requires written { IsWrittenText bytes.now }
-    ensures { IfOk result (λ reply. LiteralsAnswer scales.now bytes.now (program_tree program.now)
-        reply.text.items reply.status) }
+fn answer_literals(alloc: Global, checked: &Checked, scales: &Scales) -> Answer
+    ensures { IfOk result (λ reply. LiteralsAnswer scales.now checked.now.text.text.bytes.items
+        (program_tree checked.now.text.shaped) reply.text.items reply.status) }
 {
-    match rescale_program(alloc, program, scales) {
-        Ok(rescaled) => reply_rescaled(alloc, bytes, rescaled),
-        Err(ScaleStop::Range { at }) => reply_to_literal(alloc, bytes, at),
+    match rescale_program(alloc, checked.program(), scales) {
+        Ok(rescaled) => reply_rescaled(alloc, checked, rescaled),
+        Err(ScaleStop::Range { at }) => reply_to_literal(alloc, checked.bytes(), at),
         Err(ScaleStop::NoMemory) => Err(AllocError),
     }
 }
 
-/// The bytes with the numbers of the rescaled program.
-fn reply_rescaled(alloc: Global, bytes: &[u8], rescaled: Program) -> Result<Reply, AllocError>
-    requires written { IsWrittenText bytes.now }
-    ensures { IfOk result (λ reply. IsRescaledText bytes.now (program_tree rescaled) reply.text.items
-        × (reply.status ≡ Status.Done)) }
+/// The text with the numbers of the rescaled program.
+fn reply_rescaled(alloc: Global, checked: &Checked, rescaled: Program) -> Answer
+    ensures { IfOk result (λ reply. IsRescaledText checked.now.text.text.bytes.items (program_tree rescaled)
+        reply.text.items × (reply.status ≡ Status.Done)) }
 {
-    let text = rescaled_text(alloc, bytes, &rescaled);
+    let text = rescaled_text(alloc, checked, &rescaled);
     drop(rescaled);
     Ok(Reply {
         text: text?,
@@ -95,12 +90,16 @@ fn reply_rescaled(alloc: Global, bytes: &[u8], rescaled: Program) -> Result<Repl
     })
 }
 
-/// The text that these bytes are, with the numbers of the rescaled program.
-fn rescaled_text(alloc: Global, bytes: &[u8], rescaled: &Program) -> Result<Vec<u8>, AllocError>
-    requires written { IsWrittenText bytes.now }
-    ensures { IfOk result (λ text. IsRescaledText bytes.now (program_tree rescaled.now) text.items) }
+/// The same, and the rescaled program is kept.
+fn rescaled_text(
+    alloc: Global,
+    checked: &Checked,
+    rescaled: &Program,
+) -> Result<Vec<u8>, AllocError>
+    ensures { IfOk result (λ text. IsRescaledText checked.now.text.text.bytes.items (program_tree rescaled.now)
+        text.items) }
 {
-    match str::from_utf8(bytes) {
+    match str::from_utf8(checked.bytes()) {
         Ok(text) => rescale_text(alloc, text, rescaled),
         Err(_) => unreachable!(),
     }

@@ -11,8 +11,10 @@ use Rattle.std.proofs.lemmas.List.Elements.{All-nil, All-cons}
 use Rattle.um_sizes.specs.ScaleWords.{is_scales}
 use Rattle.um_orders.specs.declared.order.Order.{Order}
 use Rattle.um_orders.specs.declared.order.Order.TheVariants.{Types, Code, Fmt, Run, Steps, Eval, Conform, Rescale, Twin, Big, Prove, Image, Exec}
-use Rattle.um_orders.specs.declared.order.Intake.TheVariants.{Generated, Bytes}
-use Rattle.um_orders.specs.Orders.{is_short, is_budget, budget_of, is_count, count_of, big_order, rescale_order, order_of_two, order_alone, call_order, order_of_three, twin_order, order_of_many, longer_order, order_by_count, order_of, intake_of}
+use Rattle.um_orders.specs.declared.order.Intake.TheVariants.{Generated, Text, Bytes}
+use Rattle.um_orders.specs.declared.order.TextOrder.{TextOrder}
+use Rattle.um_orders.specs.declared.order.TextOrder.TheVariants as text
+use Rattle.um_orders.specs.Orders.{is_short, are_few_digits, budget_of, states_count, count_of, big_order, rescale_order, order_of_two, order_alone, call_order, order_of_three, twin_order, order_of_many, longer_order, order_by_count, order_of, intake_of, order_about}
 
 pub both : (a b : Bool) → (a && b) ≡ true → (a ≡ true) × (b ≡ true)
 both true b e = (refl, e)
@@ -73,19 +75,19 @@ longer_of_more (w ∷ v ∷ u ∷ ws) l = refl
 -- ---- what words are beside the form of their order
 
 within_limit : (word : List ℕ) (n : ℕ) → budget_of word ≡ Some n → n ≤ 10000000
-within_limit word n e = by (is_budget word && nat_le (digits_value 10 word) 10000000) refl e where
-  by : (t : Bool) → (is_budget word && nat_le (digits_value 10 word) 10000000) ≡ t → (if t then Some (digits_value 10 word) else None) ≡ Some n → n ≤ 10000000
+within_limit word n e = by (are_few_digits word && nat_le (digits_value 10 word) 10000000) refl e where
+  by : (t : Bool) → (are_few_digits word && nat_le (digits_value 10 word) 10000000) ≡ t → (if t then Some (digits_value 10 word) else None) ≡ Some n → n ≤ 10000000
   by true s named =
       let same : digits_value 10 word ≡ n = cc named in
-      subst (λ k. k ≤ 10000000) same (leb-true (digits_value 10 word) 10000000 (both (is_budget word) (nat_le (digits_value 10 word) 10000000) s).1)
+      subst (λ k. k ≤ 10000000) same (leb-true (digits_value 10 word) 10000000 (both (are_few_digits word) (nat_le (digits_value 10 word) 10000000) s).1)
   by false s named = absurd (cc named)
 
 count_within : (word : List ℕ) (n : ℕ) → count_of word ≡ Some n → (1 ≤ n) × (n ≤ 2000)
-count_within word n e = by (is_budget word && is_count word) refl e where
-  by : (t : Bool) → (is_budget word && is_count word) ≡ t → (if t then Some (digits_value 10 word) else None) ≡ Some n → (1 ≤ n) × (n ≤ 2000)
+count_within word n e = by (are_few_digits word && states_count word) refl e where
+  by : (t : Bool) → (are_few_digits word && states_count word) ≡ t → (if t then Some (digits_value 10 word) else None) ≡ Some n → (1 ≤ n) × (n ≤ 2000)
   by true s named =
       let same : digits_value 10 word ≡ n = cc named in
-      let bounds = both (nat_le (length word) 4 && nat_le 1 (digits_value 10 word)) (nat_le (digits_value 10 word) 2000) (both (is_budget word) (is_count word) s).1 in
+      let bounds = both (nat_le (length word) 4 && nat_le 1 (digits_value 10 word)) (nat_le (digits_value 10 word) 2000) (both (are_few_digits word) (states_count word) s).1 in
       let least = both (nat_le (length word) 4) (nat_le 1 (digits_value 10 word)) bounds.0 in
       (subst (λ k. 1 ≤ k) same (leb-true 1 (digits_value 10 word) least.1), subst (λ k. k ≤ 2000) same (leb-true (digits_value 10 word) 2000 bounds.1))
   by false s named = absurd (cc named)
@@ -165,36 +167,52 @@ words_by_count (w ∷ v ∷ u ∷ x ∷ ws) o e = words_of_many w v u x ws o e
 pub words_of_order : (words : List (List ℕ)) (o : Order) → order_of words ≡ Some o → AreWordsOf words o
 words_of_order words o e = words_by_count words o (named_by_count words o e).1
 
-pub generated_count : (words : List (List ℕ)) (o : Order) (n : ℕ) → order_of words ≡ Some o → intake_of o ≡ Generated n → (1 ≤ n) × (n ≤ 2000)
-generated_count words (Big k) n e takes = let same : k ≡ n = cc takes in subst (λ j. (1 ≤ j) × (j ≤ 2000)) same (words_of_order words (Big k) e)
-generated_count words Types n e takes = absurd (cc takes)
-generated_count words Code n e takes = absurd (cc takes)
-generated_count words Fmt n e takes = absurd (cc takes)
-generated_count words (Run b) n e takes = absurd (cc takes)
-generated_count words (Steps b) n e takes = absurd (cc takes)
-generated_count words (Eval b) n e takes = absurd (cc takes)
-generated_count words Conform n e takes = absurd (cc takes)
-generated_count words Rescale n e takes = absurd (cc takes)
-generated_count words (Twin b) n e takes = absurd (cc takes)
-generated_count words Prove n e takes = absurd (cc takes)
-generated_count words Image n e takes = absurd (cc takes)
-generated_count words (Exec b) n e takes = absurd (cc takes)
+-- ---- the order by what it takes
 
--- bytes as they are are taken for a call
-pub bytes_called : (words : List (List ℕ)) (o : Order) (n : ℕ) → order_of words ≡ Some o → intake_of o ≡ Bytes n → (3 ≤ length words) × (n ≤ 10000000)
-bytes_called words (Exec b) n e takes = let same : b ≡ n = cc takes in subst (λ k. (3 ≤ length words) × (k ≤ 10000000)) same (words_of_order words (Exec b) e)
-bytes_called words (Big k) n e takes = absurd (cc takes)
-bytes_called words Types n e takes = absurd (cc takes)
-bytes_called words Code n e takes = absurd (cc takes)
-bytes_called words Fmt n e takes = absurd (cc takes)
-bytes_called words (Run b) n e takes = absurd (cc takes)
-bytes_called words (Steps b) n e takes = absurd (cc takes)
-bytes_called words (Eval b) n e takes = absurd (cc takes)
-bytes_called words Conform n e takes = absurd (cc takes)
-bytes_called words Rescale n e takes = absurd (cc takes)
-bytes_called words (Twin b) n e takes = absurd (cc takes)
-bytes_called words Prove n e takes = absurd (cc takes)
-bytes_called words Image n e takes = absurd (cc takes)
+pub order_of_text : (o : Order) (t : TextOrder) → intake_of o ≡ Text t → o ≡ order_about t
+order_of_text Types t takes = let same : text.Types ≡ t = cc takes in ap order_about same
+order_of_text Code t takes = let same : text.Code ≡ t = cc takes in ap order_about same
+order_of_text Fmt t takes = let same : text.Fmt ≡ t = cc takes in ap order_about same
+order_of_text (Run b) t takes = let same : text.Run b ≡ t = cc takes in ap order_about same
+order_of_text (Steps b) t takes = let same : text.Steps b ≡ t = cc takes in ap order_about same
+order_of_text (Eval b) t takes = let same : text.Eval b ≡ t = cc takes in ap order_about same
+order_of_text Conform t takes = let same : text.Conform ≡ t = cc takes in ap order_about same
+order_of_text Rescale t takes = let same : text.Rescale ≡ t = cc takes in ap order_about same
+order_of_text (Twin b) t takes = let same : text.Twin b ≡ t = cc takes in ap order_about same
+order_of_text Prove t takes = let same : text.Prove ≡ t = cc takes in ap order_about same
+order_of_text Image t takes = let same : text.Image ≡ t = cc takes in ap order_about same
+order_of_text (Big k) t takes = absurd (cc takes)
+order_of_text (Exec b) t takes = absurd (cc takes)
+
+pub order_of_generated : (o : Order) (n : ℕ) → intake_of o ≡ Generated n → o ≡ Big n
+order_of_generated (Big k) n takes = let same : k ≡ n = cc takes in ap Big same
+order_of_generated Types n takes = absurd (cc takes)
+order_of_generated Code n takes = absurd (cc takes)
+order_of_generated Fmt n takes = absurd (cc takes)
+order_of_generated (Run b) n takes = absurd (cc takes)
+order_of_generated (Steps b) n takes = absurd (cc takes)
+order_of_generated (Eval b) n takes = absurd (cc takes)
+order_of_generated Conform n takes = absurd (cc takes)
+order_of_generated Rescale n takes = absurd (cc takes)
+order_of_generated (Twin b) n takes = absurd (cc takes)
+order_of_generated Prove n takes = absurd (cc takes)
+order_of_generated Image n takes = absurd (cc takes)
+order_of_generated (Exec b) n takes = absurd (cc takes)
+
+pub order_of_bytes : (o : Order) (n : ℕ) → intake_of o ≡ Bytes n → o ≡ Exec n
+order_of_bytes (Exec b) n takes = let same : b ≡ n = cc takes in ap Exec same
+order_of_bytes Types n takes = absurd (cc takes)
+order_of_bytes Code n takes = absurd (cc takes)
+order_of_bytes Fmt n takes = absurd (cc takes)
+order_of_bytes (Run b) n takes = absurd (cc takes)
+order_of_bytes (Steps b) n takes = absurd (cc takes)
+order_of_bytes (Eval b) n takes = absurd (cc takes)
+order_of_bytes Conform n takes = absurd (cc takes)
+order_of_bytes Rescale n takes = absurd (cc takes)
+order_of_bytes (Twin b) n takes = absurd (cc takes)
+order_of_bytes Prove n takes = absurd (cc takes)
+order_of_bytes Image n takes = absurd (cc takes)
+order_of_bytes (Big k) n takes = absurd (cc takes)
 
 -- ---- digits
 
@@ -206,7 +224,7 @@ digits_are [] = refl
 digits_are (d ∷ ds) = ap (λ b. is_ascii_digit d && b) (digits_are ds)
 
 -- few digits are read as their value
-pub few_digits_parsed : {E : Type 0} (word : List ℕ) (r : Result ℕ E) → IsTrue (is_budget word) → ParsesUnsigned 64 10 word r → r ≡ Ok (digits_value 10 word)
+pub few_digits_parsed : {E : Type 0} (word : List ℕ) (r : Result ℕ E) → IsTrue (are_few_digits word) → ParsesUnsigned 64 10 word r → r ≡ Ok (digits_value 10 word)
 few_digits_parsed word r few parses =
     let parts = both (nat_lt 0 (length word) && nat_le (length word) 8) (list_all is_ascii_digit word) few in
     let counts = both (nat_lt 0 (length word)) (nat_le (length word) 8) parts.0 in

@@ -12,6 +12,8 @@ use Rattle.um_orders.specs.declared.order.Order.TheVariants.{Types, Code, Fmt, R
 use Rattle.um_orders.specs.declared.order.Order.TheVariants.{Rescale, Twin, Big, Prove, Image, Exec}
 use Rattle.um_orders.specs.declared.order.Intake.{Intake}
 use Rattle.um_orders.specs.declared.order.Intake.TheVariants.{Generated, Text, Bytes}
+use Rattle.um_orders.specs.declared.order.TextOrder.{TextOrder}
+use Rattle.um_orders.specs.declared.order.TextOrder.TheVariants as text
 
 -- ---- the parts of a form
 
@@ -20,21 +22,21 @@ abbrev pub is_short : List ℕ → Bool
 is_short word = nat_le (length word) 1048576
 
 -- one to eight digits
-abbrev pub is_budget : List ℕ → Bool
-is_budget word = nat_lt 0 (length word) && nat_le (length word) 8 && list_all is_ascii_digit word
+abbrev pub are_few_digits : List ℕ → Bool
+are_few_digits word = nat_lt 0 (length word) && nat_le (length word) 8 && list_all is_ascii_digit word
 
--- and their value is at most 10,000,000
+-- a budget: these, of value at most 10,000,000
 abbrev pub budget_of : List ℕ → Option ℕ
 budget_of word =
-    if is_budget word && nat_le (digits_value 10 word) 10000000 then Some (digits_value 10 word) else None
+    if are_few_digits word && nat_le (digits_value 10 word) 10000000 then Some (digits_value 10 word) else None
 
--- one to four digits of value 1 to 2,000: the number of functions of a generated program
-abbrev pub is_count : List ℕ → Bool
-is_count word =
+-- at most four digits of value 1 to 2,000: the number of functions of a generated program
+abbrev pub states_count : List ℕ → Bool
+states_count word =
     nat_le (length word) 4 && nat_le 1 (digits_value 10 word) && nat_le (digits_value 10 word) 2000
 
 abbrev pub count_of : List ℕ → Option ℕ
-count_of word = if is_budget word && is_count word then Some (digits_value 10 word) else None
+count_of word = if are_few_digits word && states_count word then Some (digits_value 10 word) else None
 
 -- ---- the forms
 
@@ -52,7 +54,7 @@ abbrev pub big_order : Option ℕ → Option Order
 big_order None = None
 big_order (Some n) = Some (Big n)
 
--- rescale SCALES, where the word states sizes of base units
+-- rescale SCALES, if the word states sizes of base units
 abbrev pub rescale_order : Bool → Option Order
 rescale_order stated = if stated then Some Rescale else None
 
@@ -75,7 +77,7 @@ call_order word (Some budget) =
 abbrev pub order_of_three : List ℕ → Option ℕ → Option Order
 order_of_three word budget = if bytes_eq word (codes "conform") then Some Conform else call_order word budget
 
--- twin BUDGET SCALES NAME ARG*, where the third word states sizes of base units
+-- twin BUDGET SCALES NAME ARG*, if the third word states sizes of base units
 abbrev pub twin_order : Option ℕ → Bool → Option Order
 twin_order None stated = None
 twin_order (Some budget) stated = if stated then Some (Twin budget) else None
@@ -84,7 +86,7 @@ abbrev pub order_of_many : List ℕ → Option ℕ → Bool → Option Order
 order_of_many word budget stated =
     if bytes_eq word (codes "twin") then twin_order budget stated else call_order word budget
 
--- by the first three words and those behind them
+-- by the first three words and those after them
 abbrev pub longer_order : List ℕ → List ℕ → List ℕ → List (List ℕ) → Option Order
 longer_order word second third [] = order_of_three word (budget_of second)
 longer_order word second third (fourth ∷ more) = order_of_many word (budget_of second) (is_scales third)
@@ -95,32 +97,38 @@ order_by_count (word ∷ []) = order_alone word
 order_by_count (word ∷ second ∷ []) = order_of_two word second
 order_by_count (word ∷ second ∷ third ∷ more) = longer_order word second third more
 
--- the order that the words name, where they have one of the forms and each is short enough
+-- the order that the words name, if they have one of the forms and each is short enough
 unfoldable pub order_of : List (List ℕ) → Option Order
 order_of words = if list_all is_short words then order_by_count words else None
 
--- what an order takes from the source
+-- ---- what is taken
+
+-- what an order takes from the source, and what is asked of it
 abbrev pub intake_of : Order → Intake
-intake_of Types = Text
-intake_of Code = Text
-intake_of Fmt = Text
-intake_of (Run budget) = Text
-intake_of (Steps budget) = Text
-intake_of (Eval budget) = Text
-intake_of Conform = Text
-intake_of Rescale = Text
-intake_of (Twin budget) = Text
+intake_of Types = Text text.Types
+intake_of Code = Text text.Code
+intake_of Fmt = Text text.Fmt
+intake_of (Run budget) = Text (text.Run budget)
+intake_of (Steps budget) = Text (text.Steps budget)
+intake_of (Eval budget) = Text (text.Eval budget)
+intake_of Conform = Text text.Conform
+intake_of Rescale = Text text.Rescale
+intake_of (Twin budget) = Text (text.Twin budget)
 intake_of (Big n) = Generated n
-intake_of Prove = Text
-intake_of Image = Text
+intake_of Prove = Text text.Prove
+intake_of Image = Text text.Image
 intake_of (Exec budget) = Bytes budget
 
--- what is taken is a text: one that is read, or that of a generated program
-abbrev pub IsText : Intake → Type 0
-IsText (Bytes budget) = ⊥
-IsText intake = Unit {0}
-
--- the words name an order that takes this
-pub record AsksFor (words : List (List ℕ)) (order : Order) (intake : Intake) : Type 0 where
-  pub ordered : order_of words ≡ Some order
-  pub takes : intake_of order ≡ intake
+-- the order that asks this of a text
+abbrev pub order_about : TextOrder → Order
+order_about text.Types = Types
+order_about text.Code = Code
+order_about text.Fmt = Fmt
+order_about (text.Run budget) = Run budget
+order_about (text.Steps budget) = Steps budget
+order_about (text.Eval budget) = Eval budget
+order_about text.Conform = Conform
+order_about text.Rescale = Rescale
+order_about (text.Twin budget) = Twin budget
+order_about text.Prove = Prove
+order_about text.Image = Image

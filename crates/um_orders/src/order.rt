@@ -8,7 +8,7 @@ ghost use Rattle.um_sizes.specs.ScaleWords.{is_scales as are_sizes};
 ghost use Rattle.um_orders.specs.Orders.{order_of_two as of_two, big_order as big_named, count_of as count_in};
 ghost use Rattle.um_orders.specs.Orders.{order_of_three as of_three, order_of_many as of_many};
 ghost use Rattle.um_orders.specs.Orders.{rescale_order as rescale_named, twin_order as twin_named};
-ghost use Rattle.um_orders.specs.Orders.{call_order as call_named, budget_of as budget_in, is_budget as are_few_digits};
+ghost use Rattle.um_orders.specs.Orders.{call_order as call_named, budget_of as budget_in, are_few_digits};
 ghost use Rattle.um_orders.specs.Orders.{intake_of};
 
 use crate::Words;
@@ -50,47 +50,63 @@ pub enum Order {
     Exec { budget: u64 },
 }
 
-/// What an order takes from the source.
+/// What an order takes from the source, and what is asked of it.
 #[derive(Clone, Copy)]
 pub enum Intake {
     /// Nothing: the source stays as it was. The text is that of a generated program of so many functions.
     Generated { functions: u32 },
     /// A text of at most 1,048,576 bytes, with its tokens.
-    Text,
+    Text(TextOrder),
     /// Bytes as they are, at most 16,777,216 of them: those of an image, of which a function is called with at most so
     /// many calls.
     Bytes { budget: u64 },
 }
 
+/// What is asked of a text: the orders of [`Order`] that take one.
+#[derive(Clone, Copy)]
+pub enum TextOrder {
+    Types,
+    Code,
+    Fmt,
+    Run { budget: u64 },
+    Steps { budget: u64 },
+    Eval { budget: u64 },
+    Conform,
+    Rescale,
+    Twin { budget: u64 },
+    Prove,
+    Image,
+}
+
 impl Order {
-    /// What it takes from the source.
+    /// What it takes from the source, and what is asked of it. Takes no memory.
     pub fn intake(self) -> Intake
         ensures { result ≡ intake_of self }
     {
         match self {
-            Order::Types
-            | Order::Code
-            | Order::Fmt
-            | Order::Run { .. }
-            | Order::Steps { .. }
-            | Order::Eval { .. }
-            | Order::Conform
-            | Order::Rescale
-            | Order::Twin { .. }
-            | Order::Prove
-            | Order::Image => Intake::Text,
+            Order::Types => Intake::Text(TextOrder::Types),
+            Order::Code => Intake::Text(TextOrder::Code),
+            Order::Fmt => Intake::Text(TextOrder::Fmt),
+            Order::Run { budget } => Intake::Text(TextOrder::Run { budget }),
+            Order::Steps { budget } => Intake::Text(TextOrder::Steps { budget }),
+            Order::Eval { budget } => Intake::Text(TextOrder::Eval { budget }),
+            Order::Conform => Intake::Text(TextOrder::Conform),
+            Order::Rescale => Intake::Text(TextOrder::Rescale),
+            Order::Twin { budget } => Intake::Text(TextOrder::Twin { budget }),
             Order::Big(functions) => Intake::Generated { functions },
+            Order::Prove => Intake::Text(TextOrder::Prove),
+            Order::Image => Intake::Text(TextOrder::Image),
             Order::Exec { budget } => Intake::Bytes { budget },
         }
     }
 }
 
-/// The order that the words name, or nothing where they have none of the forms. Takes no memory.
+/// The order that the words name, or nothing if they have none of the forms. Takes no memory.
 ///
-/// The forms are `types`, `code`, `fmt`, `prove`, `image`, `big N`, `rescale SCALES`, `conform NAME TYPE`,
-/// `twin BUDGET SCALES NAME ARG*`, and `run`, `steps`, `eval` or `exec` with BUDGET NAME ARG*. A budget is one to eight digits of value at most 10,000,000, N is
-/// one to four digits of value 1 to 2,000, SCALES states sizes of base units (`um_sizes::is_scales` says how), and each
-/// word is at most 1,048,576 bytes long.
+/// The forms are `types`, `code`, `fmt`, `prove`, `image`, `big N`, `rescale SIZES`, `conform NAME TYPE`,
+/// `twin BUDGET SIZES NAME ARG*`, and `run`, `steps`, `eval` or `exec` with BUDGET NAME ARG*. A budget is one to eight
+/// digits of value at most 10,000,000, N is one to four digits of value 1 to 2,000, SIZES states sizes of base units
+/// (`um_sizes::is_scales` says how), and each word is at most 1,048,576 bytes long.
 pub fn order_of(words: &Words) -> Option<Order>
     ensures { result ≡ order_named words.now }
 {
@@ -123,7 +139,7 @@ fn order_alone(word: &str) -> Option<Order>
     }
 }
 
-/// The order of two words; whether the second one states sizes is told.
+/// The order of two words; `stated` says whether the second one states sizes.
 fn order_of_two(word: &str, second: &str, stated: bool) -> Option<Order>
     requires { stated ≡ are_sizes second.now }
     ensures { result ≡ of_two word.now second.now }
@@ -143,7 +159,7 @@ fn big_order(count: Option<u32>) -> Option<Order>
     Some(Order::Big(functions))
 }
 
-/// The order about a text in other sizes, where the word states sizes.
+/// The order about a text in other sizes, if the word states sizes.
 fn rescale_order(stated: bool) -> Option<Order>
     ensures { result ≡ rescale_named stated }
 {
@@ -176,7 +192,7 @@ fn order_of_three(word: &str, budget: Option<u64>) -> Option<Order>
     }
 }
 
-/// The order of more words; whether the third one states sizes is told.
+/// The order of more words; `stated` says whether the third one states sizes.
 fn order_of_many(word: &str, budget: Option<u64>, stated: bool) -> Option<Order>
     ensures { result ≡ of_many word.now budget stated }
 {
@@ -186,7 +202,7 @@ fn order_of_many(word: &str, budget: Option<u64>, stated: bool) -> Option<Order>
     }
 }
 
-/// The order that calls a function twice, where there is a budget and the third word states sizes.
+/// The order that calls a function twice, if there is a budget and the third word states sizes.
 fn twin_order(budget: Option<u64>, stated: bool) -> Option<Order>
     ensures { result ≡ twin_named budget stated }
 {
@@ -212,11 +228,11 @@ fn call_order(word: &str, budget: Option<u64>) -> Option<Order>
     }
 }
 
-/// The budget that a word states, where it is one to eight digits of value at most 10,000,000.
+/// The budget that a word states, if it is one to eight digits of value at most 10,000,000.
 fn budget_of(word: &str) -> Option<u64>
     ensures { result ≡ budget_in word.now }
 {
-    if !is_budget(word) {
+    if !has_few_digits(word) {
         return None;
     }
     let budget = value_of(word);
@@ -227,11 +243,11 @@ fn budget_of(word: &str) -> Option<u64>
     }
 }
 
-/// The number of functions that a word states, where it is one to four digits of value 1 to 2,000.
+/// The number of functions that a word states, if it is one to four digits of value 1 to 2,000.
 fn count_of(word: &str) -> Option<u32>
     ensures { result ≡ count_in word.now }
 {
-    if !is_budget(word) {
+    if !has_few_digits(word) {
         return None;
     }
     let count = value_of(word);
@@ -243,7 +259,7 @@ fn count_of(word: &str) -> Option<u32>
 }
 
 /// Whether the word is one to eight digits.
-fn is_budget(word: &str) -> bool
+fn has_few_digits(word: &str) -> bool
     ensures { result ≡ are_few_digits word.now }
 {
     !word.is_empty() && word.len() <= 8 && has_digits_alone(word)

@@ -1,13 +1,5 @@
 -- No report line has the status of a fault.
-use Rattle.std.proofs.Common.{ℕ, List, [], Bool, true, false, IsTrue, Result, Ok, Err, get_or, refl}
-use Rattle.um_syntax.specs.declared.token.TextStop.{TextStop}
-use Rattle.um_syntax.specs.declared.token.TextStop.TheVariants as text_stop
-use Rattle.um_types.specs.declared.parse.ParseStop.{ParseStop}
-use Rattle.um_types.specs.declared.parse.ParseStop.TheVariants as parse_stop
-use Rattle.um_measures.specs.declared.stop.NameStop.{NameStop}
-use Rattle.um_measures.specs.declared.stop.NameStop.TheVariants as name_stop
-use Rattle.um_shape.specs.declared.stop.ShapeStop.{ShapeStop}
-use Rattle.um_shape.specs.declared.stop.ShapeStop.TheVariants as shape_stop
+use Rattle.std.proofs.Common.{◌≡◌, ℕ, List, [], Bool, true, false, IsTrue, Result, Ok, Err, get_or, refl, sym, ◌∙◌}
 use Rattle.um_value.specs.declared.stop.InputStop.{InputStop}
 use Rattle.um_value.specs.declared.stop.InputStop.TheVariants as input_stop
 use Rattle.um_run.specs.declared.call.CallRefusal.{CallRefusal}
@@ -16,7 +8,9 @@ use Rattle.um_sig.specs.declared.stop.SigText.{SigText}
 use Rattle.um_sig.specs.declared.stop.SigText.TheVariants as sig_text
 use Rattle.um_sig.specs.declared.stop.SigStop.{SigStop}
 use Rattle.um_sig.specs.declared.stop.SigStop.TheVariants as sig_stop
-use Rattle.um_reports.specs.Refusals.{IsTextReply, IsParseReply, IsNameReply, IsShapeReply}
+use Rattle.um_sizes.specs.declared.read.ScalesRefusal.{ScalesRefusal}
+use Rattle.um_sizes.specs.declared.read.ScalesRefusal.TheVariants.{NoBaseUnit, NoMemory as OutOfMemory}
+use Rattle.um_reports.specs.ScaleRefusals.{IsSizesReply}
 use Rattle.um_reports.specs.CallRefusals.{IsArgumentReply, IsCallReply, IsSignatureReply, IsConformReply}
 use Rattle.um_reports.specs.declared.status.Status.{Status}
 use Rattle.um_reports.specs.declared.status.Status.TheVariants.{ReadFault, WriteFault, NoMemory}
@@ -27,31 +21,6 @@ is_answered ReadFault = false
 is_answered WriteFault = false
 is_answered NoMemory = false
 is_answered status = true
-
-pub text_reply : (bytes : List ℕ) (stop : TextStop) (text : List ℕ) (status : Status) → IsTextReply bytes stop text status → IsTrue (is_answered status)
-text_reply bytes (text_stop.Utf8 at) text status reply = rw reply.1 refl
-text_reply bytes (text_stop.BadChar at) text status reply = rw reply.1 refl
-text_reply bytes (text_stop.NumberRange at) text status reply = rw reply.1 refl
-text_reply bytes (text_stop.PowerText at) text status reply = rw reply.1 refl
-text_reply bytes text_stop.NoMemory text status reply = absurd reply
-
-pub parse_reply : (bytes : List ℕ) (stop : ParseStop) (text : List ℕ) (status : Status) → IsParseReply bytes stop text status → IsTrue (is_answered status)
-parse_reply bytes (parse_stop.Syntax at) text status reply = rw reply.1 refl
-parse_reply bytes (parse_stop.Limit kind at) text status reply = rw reply.1 refl
-parse_reply bytes parse_stop.NoMemory text status reply = absurd reply
-
-pub name_reply : (bytes : List ℕ) (stop : NameStop) (text : List ℕ) (status : Status) → IsNameReply bytes stop text status → IsTrue (is_answered status)
-name_reply bytes (name_stop.Unknown at) text status reply = rw reply.1 refl
-name_reply bytes (name_stop.Twice at) text status reply = rw reply.1 refl
-name_reply bytes (name_stop.WrongCount at) text status reply = rw reply.1 refl
-name_reply bytes (name_stop.Hole at) text status reply = rw reply.1 refl
-name_reply bytes (name_stop.Range at) text status reply = rw reply.1 refl
-name_reply bytes name_stop.NoMemory text status reply = absurd reply
-
-pub shape_reply : (bytes : List ℕ) (stop : ShapeStop) (text : List ℕ) (status : Status) → IsShapeReply bytes stop text status → IsTrue (is_answered status)
-shape_reply bytes (shape_stop.Shape at) text status reply = rw reply.1 refl
-shape_reply bytes (shape_stop.Depth at) text status reply = rw reply.1 refl
-shape_reply bytes shape_stop.NoMemory text status reply = absurd reply
 
 -- ---- calls and signatures
 
@@ -85,3 +54,13 @@ conform_reply name (Err (sig_stop.Form index)) text status reply = rw reply.1 re
 conform_reply name (Err (sig_stop.Units index)) text status reply = rw reply.1 refl
 conform_reply name (Err (sig_stop.Range index)) text status reply = rw reply.1 refl
 conform_reply name (Err sig_stop.NoMemory) text status reply = absurd reply
+
+-- ---- sizes
+
+pub sizes_reply : (refused : ScalesRefusal) (text : List ℕ) (status : Status) → IsSizesReply refused text status → IsTrue (is_answered status)
+sizes_reply NoBaseUnit text status reply = rw reply.1 refl
+sizes_reply OutOfMemory text status reply = absurd reply
+
+pub one_sizes_reply : (text other : List ℕ) (status another : Status) (refused : ScalesRefusal) → IsSizesReply refused text status → IsSizesReply refused other another → (text ≡ other) × (status ≡ another)
+one_sizes_reply text other status another NoBaseUnit a b = (a.0 ∙ sym b.0, a.1 ∙ sym b.1)
+one_sizes_reply text other status another OutOfMemory a b = absurd a

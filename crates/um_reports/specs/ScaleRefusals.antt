@@ -3,6 +3,8 @@
 use Rattle.std.specs.Prelude.{ℕ, ◌+◌, List, ◌++◌, codes, decimal}
 use Rattle.um_frac.specs.declared.number.Trap.{Trap}
 use Rattle.um_frac.specs.declared.number.Trap.TheVariants as trap
+use Rattle.um_sizes.specs.declared.read.ScalesRefusal.{ScalesRefusal}
+use Rattle.um_sizes.specs.declared.read.ScalesRefusal.TheVariants.{NoBaseUnit, NoMemory}
 use Rattle.um_reports.specs.declared.status.Status.{Status}
 use Rattle.um_reports.specs.declared.status.Status.TheVariants.{ScaleRange}
 use Rattle.um_reports.specs.declared.status.Status.TheVariants.{Trap as Trapped}
@@ -13,6 +15,11 @@ use Rattle.um_reports.specs.Steps.{line, IsReply}
 -- a size is given to a name that is no base unit's
 abbrev pub IsNoBaseReply : List ℕ → Status → Type 0
 IsNoBaseReply text status = IsInputReply text status (line (codes "error 11: no such base unit"))
+
+-- the base units have no such sizes; want of memory has no line
+abbrev pub IsSizesReply : ScalesRefusal → List ℕ → Status → Type 0
+IsSizesReply NoBaseUnit text status = IsNoBaseReply text status
+IsSizesReply NoMemory text status = ⊥
 
 -- the literal at the place has no rescaled number in range
 abbrev pub IsLiteralReply : List ℕ → ℕ → List ℕ → Status → Type 0

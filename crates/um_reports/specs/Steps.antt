@@ -10,6 +10,6 @@ line bytes = bytes ++ codes "\n"
 abbrev pub IsReply : List ℕ → Status → List ℕ → Status → Type 0
 IsReply text status wanted_text wanted_status = (text ≡ wanted_text) × (status ≡ wanted_status)
 
--- where the case applies, what it says, and else what comes after it
+-- if the case applies, what it says, and otherwise what comes after it
 abbrev pub Cases : Type 0 → Type 0 → Type 0 → Type 0
 Cases case here after = (case × here) ⊎ ((case → ⊥) × after)

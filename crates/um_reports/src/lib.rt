@@ -26,5 +26,5 @@ pub use refusal::{
     reply_to_unread,
 };
 pub use reply::Reply;
-pub use scale_refusal::{reply_to_literal, reply_to_misfit, reply_to_no_base, reply_to_run_trap};
+pub use scale_refusal::{reply_to_literal, reply_to_misfit, reply_to_run_trap, reply_to_sizes};
 pub use status::Status;

@@ -1,6 +1,6 @@
 // The lines of refused sizes, of numbers that don't fit, and of two runs.
 ghost use Rattle.std.specs.Prelude.{◌≡◌, IfOk};
-ghost use Rattle.um_reports.specs.ScaleRefusals.{IsNoBaseReply, IsLiteralReply, IsMisfitReply, IsRunTrapReply};
+ghost use Rattle.um_reports.specs.ScaleRefusals.{IsSizesReply, IsLiteralReply, IsMisfitReply, IsRunTrapReply};
 ghost use Rattle.um_reports.specs.ScaleRefusals.{trap_name};
 
 use crate::Status;
@@ -9,12 +9,18 @@ use crate::refusal::{reply_at, reply_line};
 use crate::reply::Reply;
 use std::alloc::{AllocError, Global};
 use um_frac::Trap;
+use um_sizes::ScalesRefusal;
 
-/// The refusal of a size of a name that is no base unit's.
-pub fn reply_to_no_base(alloc: Global) -> Result<Reply, AllocError>
-    ensures { IfOk result (λ reply. IsNoBaseReply reply.text.items reply.status) }
+/// The refusal of sizes of base units.
+pub fn reply_to_sizes(alloc: Global, refusal: ScalesRefusal) -> Result<Reply, AllocError>
+    ensures { IfOk result (λ reply. IsSizesReply refusal reply.text.items reply.status) }
 {
-    reply_line(alloc, "error 11: no such base unit", Status::Input)
+    match refusal {
+        ScalesRefusal::NoBaseUnit => {
+            reply_line(alloc, "error 11: no such base unit", Status::Input)
+        }
+        ScalesRefusal::NoMemory => Err(AllocError),
+    }
 }
 
 /// The refusal of the literal at the place, whose rescaled number is out of range.

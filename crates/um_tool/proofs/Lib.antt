@@ -1,7 +1,6 @@
 pub mod Statuses
 pub mod Serving
 pub mod Complete
-pub mod Reached
 pub mod PrintedSchemes
 pub mod CallsMeant
 pub mod TwinsMeant

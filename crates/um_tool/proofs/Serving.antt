@@ -1,5 +1,5 @@
 -- What is planned, by the steps of the answer.
-use Rattle.std.proofs.Common.{◌≡◌, ℕ, ◌<◌, ◌≤◌, List, [], length, None, Some, Result, Ok, Err, IfOk, IsTrue, codes, sym, ap, ◌∙◌, refl, inl, inr, arith}
+use Rattle.std.proofs.Common.{◌≡◌, ℕ, ◌<◌, ◌≤◌, List, [], length, None, Some, Result, Ok, Err, IfOk, IsTrue, codes, sym, ◌∙◌, refl, inl, inr, arith}
 use Rattle.std.specs.Prelude.{IsErrOf}
 use Rattle.std.specs.declared.option.Option.{Option}
 use Rattle.um_wire.specs.Faults.{Rose}
@@ -7,19 +7,30 @@ use Rattle.um_wire.specs.Bytes.{Tells, TellsMoreThan, AppendsPrefix}
 use Rattle.um_wire.specs.declared.read.ReadStop.{ReadStop}
 use Rattle.um_wire.specs.declared.read.ReadStop.TheVariants.{TooLong as TooLongToRead, Failed as ReadFailed, NoMemory as OutOfMemory}
 use Rattle.um_orders.specs.declared.order.Order.{Order}
-use Rattle.um_orders.specs.declared.order.Intake.{Intake}
-use Rattle.um_orders.specs.declared.order.Order.TheVariants.{Types, Code, Fmt, Run, Steps, Eval, Conform, Rescale, Twin, Big, Prove, Image, Exec}
-use Rattle.um_orders.specs.declared.order.Intake.TheVariants.{Generated, Text, Bytes}
+use Rattle.um_orders.specs.declared.order.Order.TheVariants.{Big, Exec}
+use Rattle.um_orders.specs.declared.order.TextOrder.{TextOrder}
+use Rattle.um_orders.specs.declared.order.TextOrder.TheVariants as text_order
+use Rattle.um_orders.specs.Orders.{order_of, intake_of, order_about}
 use Rattle.um_reports.specs.declared.status.Status.{Status}
-use Rattle.um_reports.specs.declared.status.Status.TheVariants.{Usage, ReadFault, WriteFault}
-use Rattle.um_tool.specs.Answer.{Answer, IntakeAnswer, SizeAnswer, LengthAnswer, TokensAnswer}
-use Rattle.um_answers.specs.ExecAnswer.{ExecAnswer}
+use Rattle.um_reports.specs.declared.status.Status.TheVariants.{Usage, TooLong, ReadFault, WriteFault}
 use Rattle.um_reports.specs.Refusals.{IsReadReply}
 use Rattle.um_reports.specs.Steps.{IsReply, line}
-use Rattle.um_big.specs.BigText.{big_text}
-use Rattle.um_orders.specs.Orders.{order_of, intake_of, AsksFor}
-use Rattle.um_tool.specs.Served.{IsPlanned, Reads, Serves}
 use Rattle.um_reports.proofs.ReportStatuses.{is_answered}
+use Rattle.um_front.proofs.TooLongTexts.{too_long_unread, too_long_unshaped, too_long_unchecked}
+use Rattle.um_answers.specs.TypesAnswer.{TypesAnswer}
+use Rattle.um_answers.specs.CodeAnswer.{CodeAnswer}
+use Rattle.um_answers.specs.FmtAnswer.{FmtAnswer}
+use Rattle.um_answers.specs.ConformAnswer.{ConformAnswer}
+use Rattle.um_answers.specs.RescaleAnswer.{RescaleAnswer}
+use Rattle.um_answers.specs.ProveAnswer.{ProveAnswer}
+use Rattle.um_answers.specs.ImageAnswer.{ImageAnswer}
+use Rattle.um_call_answers.specs.CallAnswer.{CallAnswer}
+use Rattle.um_call_answers.specs.TwinAnswer.{TwinAnswer}
+use Rattle.um_call_answers.specs.BigAnswer.{BigAnswer}
+use Rattle.um_call_answers.specs.ExecAnswer.{BytesAnswer, ExecAnswer}
+use Rattle.um_tool.specs.Asked.{called}
+use Rattle.um_tool.specs.Answer.{Answer, ByOrder}
+use Rattle.um_tool.specs.Served.{TakesSome, IsPlanned, Reads, Serves}
 use Rattle.um_tool.proofs.Statuses.{Answer-status}
 
 -- some bytes that the source may have left
@@ -40,72 +51,77 @@ usage_planned words left before now text status none reply =
 
 -- ---- an order, by what it takes from the source
 
-pub order_planned : (words : List (List ℕ)) (left : Option (List ℕ)) (before now : ℕ) (order : Order) (intake : Intake) (bytes text : List ℕ) (status : Status) → AsksFor words order intake → Tells left bytes → IntakeAnswer intake order words bytes text status → IsPlanned words left before now text status
+pub order_planned : (words : List (List ℕ)) (left : Option (List ℕ)) (before now : ℕ) (order : Order) (bytes text : List ℕ) (status : Status) → order_of words ≡ Some order → Tells left bytes → ByOrder order words bytes text status → IsPlanned words left before now text status
 unfolding Answer
-order_planned words left before now order intake bytes text status asks told answer =
-    inl (bytes, told, rw asks.ordered (rw asks.takes answer))
+order_planned words left before now order bytes text status ordered told answer = inl (bytes, told, rw ordered answer)
 
-pub text_planned : (words : List (List ℕ)) (left : Option (List ℕ)) (before now : ℕ) (order : Order) (bytes text : List ℕ) (status : Status) → AsksFor words order Text → Tells left bytes → length bytes ≤ 1048576 → TokensAnswer order words bytes text status → IsPlanned words left before now text status
-unfolding LengthAnswer
-text_planned words left before now order bytes text status asks told short answer =
-    let past : 1048576 < length bytes → ⊥ = λ h. omega arith in
-    order_planned words left before now order Text bytes text status asks told (inr (past, answer))
-
--- a generated text is answered as if it had been read
-pub generated_planned : (words : List (List ℕ)) (left : Option (List ℕ)) (before now : ℕ) (order : Order) (n : ℕ) (text : List ℕ) (status : Status) → AsksFor words order (intake_of order) → intake_of order ≡ Generated n → TokensAnswer order words (big_text n) text status → IsPlanned words left before now text status
-generated_planned words left before now order n text status asks takes answer =
+-- a generated text is answered whatever the source has
+pub generated_planned : (words : List (List ℕ)) (left : Option (List ℕ)) (before now : ℕ) (n : ℕ) (text : List ℕ) (status : Status) → order_of words ≡ Some (Big n) → BigAnswer n text status → IsPlanned words left before now text status
+generated_planned words left before now n text status ordered answer =
     let told = some_told left in
-    let generated : AsksFor words order (Generated n) = record { ordered = asks.ordered; takes = takes } in
-    order_planned words left before now order (Generated n) told.0 text status generated told.1 answer
+    order_planned words left before now (Big n) told.0 text status ordered told.1 answer
 
--- words that ask for a text read
-pub text_reads : (words : List (List ℕ)) (order : Order) → AsksFor words order Text → Reads words
-text_reads words order asks = record { order = order; intake = Text; asks = asks; some = tt }
+-- ---- a text
 
-pub unread_planned : {T : Type 0} (result : Result T ReadStop) (stop : ReadStop) (words : List (List ℕ)) (left : Option (List ℕ)) (before now : ℕ) (order : Order) (text : List ℕ) (status : Status) → AsksFor words order Text → result ≡ Err stop
+-- a text that is too long is refused, whatever is asked of it
+too_long : (order : TextOrder) (words : List (List ℕ)) (bytes text : List ℕ) (status : Status) → 1048576 < length bytes → IsReply text status (line (codes "error 2: text too long")) TooLong → ByOrder (order_about order) words bytes text status
+unfolding TypesAnswer CodeAnswer FmtAnswer CallAnswer ConformAnswer RescaleAnswer TwinAnswer ProveAnswer ImageAnswer
+too_long text_order.Types words bytes text status long reply = inr (too_long_unchecked bytes text status long reply)
+too_long text_order.Code words bytes text status long reply = inr (too_long_unchecked bytes text status long reply)
+too_long text_order.Fmt words bytes text status long reply = inr (too_long_unread bytes text status long reply)
+too_long (text_order.Run budget) words bytes text status long reply = inr (too_long_unchecked bytes text status long reply)
+too_long (text_order.Steps budget) words bytes text status long reply = inr (too_long_unchecked bytes text status long reply)
+too_long (text_order.Eval budget) words bytes text status long reply = inr (too_long_unchecked bytes text status long reply)
+too_long text_order.Conform words bytes text status long reply = inr (too_long_unchecked bytes text status long reply)
+too_long text_order.Rescale words bytes text status long reply = inr (too_long_unchecked bytes text status long reply)
+too_long (text_order.Twin budget) words bytes text status long reply = inr (too_long_unchecked bytes text status long reply)
+too_long text_order.Prove words bytes text status long reply = inr (too_long_unshaped bytes text status long reply)
+too_long text_order.Image words bytes text status long reply = inr (too_long_unchecked bytes text status long reply)
+
+text_takes : (order : TextOrder) → TakesSome (intake_of (order_about order))
+text_takes text_order.Types = tt
+text_takes text_order.Code = tt
+text_takes text_order.Fmt = tt
+text_takes (text_order.Run budget) = tt
+text_takes (text_order.Steps budget) = tt
+text_takes (text_order.Eval budget) = tt
+text_takes text_order.Conform = tt
+text_takes text_order.Rescale = tt
+text_takes (text_order.Twin budget) = tt
+text_takes text_order.Prove = tt
+text_takes text_order.Image = tt
+
+-- words that ask something of a text read
+pub text_reads : (words : List (List ℕ)) (order : TextOrder) → order_of words ≡ Some (order_about order) → Reads words
+text_reads words order ordered = record { order = order_about order; ordered = ordered; some = text_takes order }
+
+pub unread_planned : {T : Type 0} (result : Result T ReadStop) (stop : ReadStop) (words : List (List ℕ)) (left : Option (List ℕ)) (before now : ℕ) (order : TextOrder) (text : List ℕ) (status : Status) → order_of words ≡ Some (order_about order) → result ≡ Err stop
     → (IsErrOf result TooLongToRead → TellsMoreThan 1048576 left) → (IsErrOf result ReadFailed → Rose before now) → IsReadReply stop text status → IsPlanned words left before now text status
-unfolding LengthAnswer
-unread_planned result TooLongToRead words left before now order text status asks is long rose reply =
+unread_planned result TooLongToRead words left before now order text status ordered is long rose reply =
     let more = long is in
-    order_planned words left before now order Text more.bytes text status asks more.told (inl (more.more, reply))
-unread_planned result ReadFailed words left before now order text status asks is long rose reply = inr (reply, text_reads words order asks, rose is)
-unread_planned result OutOfMemory words left before now order text status asks is long rose reply = absurd reply
+    order_planned words left before now (order_about order) more.bytes text status ordered more.told (too_long order words more.bytes text status more.more reply)
+unread_planned result ReadFailed words left before now order text status ordered is long rose reply = inr (reply, text_reads words order ordered, rose is)
+unread_planned result OutOfMemory words left before now order text status ordered is long rose reply = absurd reply
 
 -- ---- bytes as they are
 
--- they are taken for a call of an image
-pub taken_for_exec : (o : Order) (n : ℕ) → intake_of o ≡ Bytes n → o ≡ Exec n
-taken_for_exec (Exec b) n takes = let same : b ≡ n = cc takes in ap Exec same
-taken_for_exec (Big k) n takes = absurd (cc takes)
-taken_for_exec Types n takes = absurd (cc takes)
-taken_for_exec Code n takes = absurd (cc takes)
-taken_for_exec Fmt n takes = absurd (cc takes)
-taken_for_exec (Run b) n takes = absurd (cc takes)
-taken_for_exec (Steps b) n takes = absurd (cc takes)
-taken_for_exec (Eval b) n takes = absurd (cc takes)
-taken_for_exec Conform n takes = absurd (cc takes)
-taken_for_exec Rescale n takes = absurd (cc takes)
-taken_for_exec (Twin b) n takes = absurd (cc takes)
-taken_for_exec Prove n takes = absurd (cc takes)
-taken_for_exec Image n takes = absurd (cc takes)
+pub bytes_read : (words : List (List ℕ)) (budget : ℕ) → order_of words ≡ Some (Exec budget) → Reads words
+bytes_read words budget ordered = record { order = Exec budget; ordered = ordered; some = tt }
 
 module _ (words : List (List ℕ)) (left : Option (List ℕ)) (before now budget : ℕ) (ordered : order_of words ≡ Some (Exec budget)) where
-  asks : AsksFor words (Exec budget) (Bytes budget)
-  asks = record { ordered = ordered; takes = refl }
-
-  pub bytes_planned : (bytes text : List ℕ) (status : Status) → Tells left bytes → length bytes ≤ 16777216 → ExecAnswer budget words bytes text status → IsPlanned words left before now text status
-  unfolding SizeAnswer
+  pub bytes_planned : (bytes text : List ℕ) (status : Status) → Tells left bytes → length bytes ≤ 16777216 → BytesAnswer (called budget words) bytes text status → IsPlanned words left before now text status
+  unfolding ExecAnswer
   bytes_planned bytes text status told short answer =
       let past : 16777216 < length bytes → ⊥ = λ h. omega arith in
-      order_planned words left before now (Exec budget) (Bytes budget) bytes text status asks told (inr (past, answer))
+      order_planned words left before now (Exec budget) bytes text status ordered told (inr (past, answer))
 
   pub bytes_unread : {T : Type 0} (result : Result T ReadStop) (stop : ReadStop) (text : List ℕ) (status : Status) → result ≡ Err stop → (IsErrOf result TooLongToRead → TellsMoreThan 16777216 left) → (IsErrOf result ReadFailed → Rose before now)
       → IsReadReply stop text status → IsPlanned words left before now text status
-  unfolding SizeAnswer
+  unfolding ExecAnswer
   bytes_unread result TooLongToRead text status is long rose reply =
       let more = long is in
-      order_planned words left before now (Exec budget) (Bytes budget) more.bytes text status asks more.told (inl (more.more, reply))
-  bytes_unread result ReadFailed text status is long rose reply = inr (reply, record { order = Exec budget; intake = Bytes budget; asks = asks; some = tt }, rose is)
+      order_planned words left before now (Exec budget) more.bytes text status ordered more.told (inl (more.more, reply))
+  bytes_unread result ReadFailed text status is long rose reply = inr (reply, bytes_read words budget ordered, rose is)
   bytes_unread result OutOfMemory text status is long rose reply = absurd reply
 
 -- what is planned with the status of a failed read has its cause

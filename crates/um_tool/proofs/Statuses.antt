@@ -1,108 +1,42 @@
 -- Which statuses an answer may have: none of the faults'.
-use Rattle.std.proofs.Common.{ℕ, List, IsTrue, None, Some, Result, Ok, Err, MatchOption, codes, refl, inl, inr}
+use Rattle.std.proofs.Common.{ℕ, List, IsTrue, None, Some, MatchOption, codes, refl}
 use Rattle.std.specs.declared.option.Option.{Option}
-use Rattle.um_syntax.specs.declared.token.Token.{Token}
-use Rattle.um_tree.specs.ProgramTree.{ProgramTree}
-use Rattle.um_reports.specs.declared.status.Status.{Status}
-use Rattle.um_reports.specs.declared.status.Status.TheVariants.{Usage}
 use Rattle.um_orders.specs.declared.order.Order.{Order}
 use Rattle.um_orders.specs.declared.order.Order.TheVariants.{Types, Code, Fmt, Run, Steps, Eval, Conform, Rescale, Twin, Big, Prove, Image, Exec}
-use Rattle.um_orders.specs.declared.order.Intake.{Intake}
-use Rattle.um_orders.specs.declared.order.Intake.TheVariants.{Generated, Text, Bytes}
-use Rattle.um_infer.specs.Inference.{Inference, all_schemes, stops_at_slots, stops_at_range, stops_at_units, stops_at_not_general, infer}
-use Rattle.um_big.specs.BigText.{big_text}
-use Rattle.um_proof.specs.declared.proofs.Proofs.{Proofs}
-use Rattle.um_proof.specs.declared.stop.ProveStop.{ProveStop}
-use Rattle.um_proof.specs.declared.stop.ProveStop.TheVariants as prove_stop
-use Rattle.um_answers.specs.Asked.{Asked}
-use Rattle.um_tool.specs.Answer.{Answer, IntakeAnswer, SizeAnswer, LengthAnswer, TokensAnswer, GrammarAnswer, ProgramAnswer, ByLayout, NamesAnswer, ShapesAnswer, SchemesAnswer, BySchemes, IsProofReply, ProofAnswer, InferenceAnswer}
-use Rattle.um_orders.specs.Orders.{order_of, intake_of}
+use Rattle.um_orders.specs.Orders.{order_of}
+use Rattle.um_reports.specs.declared.status.Status.{Status}
+use Rattle.um_reports.specs.declared.status.Status.TheVariants.{Usage}
 use Rattle.um_reports.specs.Steps.{IsReply, line}
-use Rattle.um_reports.proofs.ReportStatuses.{is_answered, text_reply, parse_reply, name_reply, shape_reply}
-use Rattle.um_answers.proofs.TypedStatuses.{TypedAnswer-status}
-use Rattle.um_answers.proofs.ExecAnswers.{ExecAnswer-status}
+use Rattle.um_reports.proofs.ReportStatuses.{is_answered}
+use Rattle.um_answers.proofs.ConformAnswers.{ConformAnswer-status}
+use Rattle.um_answers.proofs.ImageAnswers.{ImageAnswer-status}
+use Rattle.um_answers.proofs.RescaleAnswers.{RescaleAnswer-status}
+use Rattle.um_answers.proofs.TextAnswers.{TypesAnswer-status, CodeAnswer-status, FmtAnswer-status, ProveAnswer-status}
+use Rattle.um_call_answers.specs.declared.way.Way.TheVariants as way
+use Rattle.um_call_answers.proofs.CallStatuses.{CallAnswer-status, BigAnswer-status}
+use Rattle.um_call_answers.proofs.ExecAnswers.{ExecAnswer-status}
+use Rattle.um_call_answers.proofs.TwinAnswers.{TwinAnswer-status}
+use Rattle.um_tool.specs.Asked.{called, held_name, signature_text, rescale_sizes, twin_sizes, called_twice}
+use Rattle.um_tool.specs.Answer.{Answer, ByOrder}
 
-inference_status : (asked : Asked) (p : ProgramTree) (inferred : Inference) (text : List ℕ) (status : Status) → InferenceAnswer asked p inferred text status → IsTrue (is_answered status)
-inference_status asked p (all_schemes schemes) text status answer = TypedAnswer-status asked p schemes text status answer
-inference_status asked p (stops_at_slots i) text status answer = rw answer.2.1 refl
-inference_status asked p (stops_at_range i at) text status answer = rw answer.2.1 refl
-inference_status asked p (stops_at_units i row at) text status answer = rw answer.2.1 refl
-inference_status asked p (stops_at_not_general i row at) text status answer = rw answer.2.1 refl
+by_order_status : (order : Order) (words : List (List ℕ)) (bytes text : List ℕ) (status : Status) → ByOrder order words bytes text status → IsTrue (is_answered status)
+by_order_status Types words bytes text status answer = TypesAnswer-status bytes text status answer
+by_order_status Code words bytes text status answer = CodeAnswer-status bytes text status answer
+by_order_status Fmt words bytes text status answer = FmtAnswer-status bytes text status answer
+by_order_status (Run budget) words bytes text status answer = CallAnswer-status way.Code (called budget words) bytes text status answer
+by_order_status (Steps budget) words bytes text status answer = CallAnswer-status way.Counted (called budget words) bytes text status answer
+by_order_status (Eval budget) words bytes text status answer = CallAnswer-status way.Tree (called budget words) bytes text status answer
+by_order_status Conform words bytes text status answer = ConformAnswer-status (held_name words) (signature_text words) bytes text status answer
+by_order_status Rescale words bytes text status answer = RescaleAnswer-status (rescale_sizes words) bytes text status answer
+by_order_status (Twin budget) words bytes text status answer = TwinAnswer-status text status (twin_sizes words) (called_twice budget words) bytes answer
+by_order_status (Big n) words bytes text status answer = BigAnswer-status n text status answer
+by_order_status Prove words bytes text status answer = ProveAnswer-status bytes text status answer
+by_order_status Image words bytes text status answer = ImageAnswer-status bytes text status answer
+by_order_status (Exec budget) words bytes text status answer = ExecAnswer-status (called budget words) bytes text status answer
 
-proof_reply : (bytes : List ℕ) (p : ProgramTree) (r : Result Proofs ProveStop) (text : List ℕ) (status : Status) → IsProofReply bytes p r text status → IsTrue (is_answered status)
-proof_reply bytes p (Ok proofs) text status reply = rw reply.1 refl
-proof_reply bytes p (Err (prove_stop.Slots i)) text status reply = rw reply.2.1 refl
-proof_reply bytes p (Err (prove_stop.PowerRange i at)) text status reply = rw reply.2.1 refl
-proof_reply bytes p (Err (prove_stop.CertRange i number)) text status reply = rw reply.2.1 refl
-proof_reply bytes p (Err prove_stop.NoMemory) text status reply = absurd reply
-
-by_schemes_status : (order : Order) (asked : Asked) (p : ProgramTree) (text : List ℕ) (status : Status) → BySchemes order asked p text status → IsTrue (is_answered status)
-unfolding ProofAnswer
-by_schemes_status Prove asked p text status (r, proved, reply) = proof_reply asked.bytes p r text status reply
-by_schemes_status order asked p text status answer = inference_status asked p (infer p) text status answer
-
-SchemesAnswer-status : (asked : Asked) (p : ProgramTree) (text : List ℕ) (status : Status) → SchemesAnswer asked p text status → IsTrue (is_answered status)
-unfolding SchemesAnswer
-SchemesAnswer-status asked p text status answer = by_schemes_status asked.order asked p text status answer
-
-ShapesAnswer-status : (asked : Asked) (p : ProgramTree) (text : List ℕ) (status : Status) → ShapesAnswer asked p text status → IsTrue (is_answered status)
-unfolding ShapesAnswer
-ShapesAnswer-status asked p text status (inl (faultless, answer)) = SchemesAnswer-status asked p text status answer
-ShapesAnswer-status asked p text status (inr (stop, refused, reply)) = shape_reply asked.bytes stop text status reply
-
-NamesAnswer-status : (asked : Asked) (text : List ℕ) (status : Status) → NamesAnswer asked text status → IsTrue (is_answered status)
-unfolding NamesAnswer
-NamesAnswer-status asked text status (inl (p, resolved, answer)) = ShapesAnswer-status asked p text status answer
-NamesAnswer-status asked text status (inr (stop, refused, reply)) = name_reply asked.bytes stop text status reply
-
-by_layout_status : (order : Order) (asked : Asked) (text : List ℕ) (status : Status) → ByLayout order asked text status → IsTrue (is_answered status)
-by_layout_status Fmt asked text status reply = rw reply.1 refl
-by_layout_status Types asked text status answer = NamesAnswer-status asked text status answer
-by_layout_status Code asked text status answer = NamesAnswer-status asked text status answer
-by_layout_status (Run budget) asked text status answer = NamesAnswer-status asked text status answer
-by_layout_status (Steps budget) asked text status answer = NamesAnswer-status asked text status answer
-by_layout_status (Eval budget) asked text status answer = NamesAnswer-status asked text status answer
-by_layout_status Conform asked text status answer = NamesAnswer-status asked text status answer
-by_layout_status Rescale asked text status answer = NamesAnswer-status asked text status answer
-by_layout_status (Twin budget) asked text status answer = NamesAnswer-status asked text status answer
-by_layout_status (Big n) asked text status answer = NamesAnswer-status asked text status answer
-by_layout_status Prove asked text status answer = NamesAnswer-status asked text status answer
-by_layout_status Image asked text status answer = NamesAnswer-status asked text status answer
-by_layout_status (Exec budget) asked text status answer = NamesAnswer-status asked text status answer
-
-ProgramAnswer-status : (asked : Asked) (text : List ℕ) (status : Status) → ProgramAnswer asked text status → IsTrue (is_answered status)
-unfolding ProgramAnswer
-ProgramAnswer-status asked text status answer = by_layout_status asked.order asked text status answer
-
-GrammarAnswer-status : (order : Order) (words : List (List ℕ)) (bytes : List ℕ) (tokens : List Token) (text : List ℕ) (status : Status) → GrammarAnswer order words bytes tokens text status → IsTrue (is_answered status)
-unfolding GrammarAnswer
-GrammarAnswer-status order words bytes tokens text status (inl (raw, read, answer)) =
-    ProgramAnswer-status (record { order = order; words = words; bytes = bytes; raw = raw }) text status answer
-GrammarAnswer-status order words bytes tokens text status (inr (stop, parsed, reply)) = parse_reply bytes stop text status reply
-
-TokensAnswer-status : (order : Order) (words : List (List ℕ)) (bytes text : List ℕ) (status : Status) → TokensAnswer order words bytes text status → IsTrue (is_answered status)
-unfolding TokensAnswer
-TokensAnswer-status order words bytes text status (inl (tokens, lexed, answer)) = GrammarAnswer-status order words bytes tokens text status answer
-TokensAnswer-status order words bytes text status (inr (stop, lexed, reply)) = text_reply bytes stop text status reply
-
-LengthAnswer-status : (order : Order) (words : List (List ℕ)) (bytes text : List ℕ) (status : Status) → LengthAnswer order words bytes text status → IsTrue (is_answered status)
-unfolding LengthAnswer
-LengthAnswer-status order words bytes text status (inl (long, reply)) = rw reply.1 refl
-LengthAnswer-status order words bytes text status (inr (short, answer)) = TokensAnswer-status order words bytes text status answer
-
-SizeAnswer-status : (budget : ℕ) (words : List (List ℕ)) (bytes text : List ℕ) (status : Status) → SizeAnswer budget words bytes text status → IsTrue (is_answered status)
-unfolding SizeAnswer
-SizeAnswer-status budget words bytes text status (inl (long, reply)) = rw reply.1 refl
-SizeAnswer-status budget words bytes text status (inr (short, answer)) = ExecAnswer-status budget words bytes text status answer
-
-intake_status : (intake : Intake) (order : Order) (words : List (List ℕ)) (bytes text : List ℕ) (status : Status) → IntakeAnswer intake order words bytes text status → IsTrue (is_answered status)
-intake_status (Generated n) order words bytes text status answer = TokensAnswer-status order words (big_text n) text status answer
-intake_status Text order words bytes text status answer = LengthAnswer-status order words bytes text status answer
-intake_status (Bytes budget) order words bytes text status answer = SizeAnswer-status budget words bytes text status answer
-
-ordered_status : (order : Option Order) (words : List (List ℕ)) (bytes text : List ℕ) (status : Status) → MatchOption order (IsReply text status (line (codes "error 1: usage")) Usage) (λ o. IntakeAnswer (intake_of o) o words bytes text status) → IsTrue (is_answered status)
+ordered_status : (order : Option Order) (words : List (List ℕ)) (bytes text : List ℕ) (status : Status) → MatchOption order (IsReply text status (line (codes "error 1: usage")) Usage) (λ o. ByOrder o words bytes text status) → IsTrue (is_answered status)
 ordered_status None words bytes text status reply = rw reply.1 refl
-ordered_status (Some order) words bytes text status answer = intake_status (intake_of order) order words bytes text status answer
+ordered_status (Some order) words bytes text status answer = by_order_status order words bytes text status answer
 
 pub Answer-status : (words : List (List ℕ)) (bytes text : List ℕ) (status : Status) → Answer words bytes text status → IsTrue (is_answered status)
 unfolding Answer

@@ -4,38 +4,38 @@ use Rattle.std.specs.Prelude.{ℕ, ◌≡◌, ◌⊎◌, Bool, true, false, IsTr
 use Rattle.std.specs.Prelude.{Ok, Option}
 use Rattle.um_tree.specs.TypeTree.{type_trees}
 use Rattle.um_tree.specs.ValueTree.{ValueTree, OutcomeTree, value_outcome}
-use Rattle.um_tree.specs.ProgramTree.{ProgramTree, SchemeTree}
 use Rattle.um_tree.specs.Meaning.{outcome_of_call}
 use Rattle.um_scaling.specs.FreeNumbers.{IsFreeZero}
-use Rattle.um_measures.specs.declared.abbreviation.Abbreviation.{Abbreviation}
 use Rattle.um_measures.specs.Known.{number_of, function_names}
-use Rattle.um_names.specs.Resolution.{resolved_abbreviations}
 use Rattle.um_infer.specs.Schemes.{ArePrincipal}
 use Rattle.um_gen.specs.ProgramCode.{program_code}
 use Rattle.um_code.specs.Listing.{listing_text}
-use Rattle.um_run.specs.Calls.{CallTree, call_values, IsCallOf}
+use Rattle.um_run.specs.Calls.{CallTree, call_values}
 use Rattle.um_run.specs.Laws.{IsTypedCall}
 use Rattle.um_sig.specs.declared.signature.Signature.{Signature}
 use Rattle.um_sig.specs.Reading.{IsRead}
 use Rattle.um_sig.specs.Instances.{AreAllTypings}
 use Rattle.um_orders.specs.declared.order.Order.{Order}
 use Rattle.um_orders.specs.declared.order.Order.TheVariants.{Run, Steps, Eval, Conform}
-use Rattle.um_answers.specs.declared.way.Way.{Way}
-use Rattle.um_answers.specs.declared.way.Way.TheVariants as way
+use Rattle.um_orders.specs.Orders.{order_of}
 use Rattle.um_reports.specs.declared.status.Status.{Status}
 use Rattle.um_reports.specs.declared.status.Status.TheVariants.{Done, Trap, BudgetEnd, NotConform}
-use Rattle.um_answers.specs.Asked.{called_name, argument_texts, held_name, signature_text}
-use Rattle.um_answers.specs.CallAnswer.{AreSteps, IsOutcomeReply}
-use Rattle.um_orders.specs.Orders.{order_of}
-use Rattle.um_tool.specs.Answer.{Answer}
 use Rattle.um_reports.specs.Steps.{line}
-use Rattle.um_tool.specs.Laws.{SpellsProgram}
+use Rattle.um_front.specs.Stages.{CheckedTree, IsCheckedText}
+use Rattle.um_call_answers.specs.declared.way.Way.{Way}
+use Rattle.um_call_answers.specs.declared.way.Way.TheVariants as way
+use Rattle.um_call_answers.specs.AskedCall.{AskedCall}
+use Rattle.um_call_answers.specs.CallAnswer.{AreSteps, IsOutcomeReply}
+use Rattle.um_call_answers.specs.Passing.{IsAskedCall}
+use Rattle.um_tool.specs.Asked.{called, held_name, signature_text}
+use Rattle.um_tool.specs.Answer.{Answer}
 
 -- What `code` prints with status 0 is the listing of the code of the program that the bytes spell.
 abbrev pub PrintedCodeIsTheProgramsCode : Type 0
 PrintedCodeIsTheProgramsCode =
     (bytes text : List ℕ) → Answer (codes "code" ∷ []) bytes text Done →
-    (p : ProgramTree) × SpellsProgram bytes p × (text ≡ listing_text p (program_code p.functions))
+    (c : CheckedTree) × IsCheckedText bytes c
+    × (text ≡ listing_text c.text.program (program_code c.text.program.functions))
 
 -- ---- calls
 
@@ -53,33 +53,29 @@ ends_a_call Trap = true
 ends_a_call BudgetEnd = true
 ends_a_call status = false
 
--- The words name a call in the program that the bytes spell, given its principal schemes; the call has a type, and the
--- text and the status are those of its meaning's outcome at the budget, with the steps of the code's run where they are
--- counted. A number of its value is 0 where its unit isn't closed.
-pub record IsMeantCall
-    (way : Way) (budget : ℕ) (words : List (List ℕ)) (bytes text : List ℕ) (status : Status) : Type 0 where
-  pub program : ProgramTree
-  pub spelled : SpellsProgram bytes program
-  pub shorts : List Abbreviation
-  pub abbreviated : resolved_abbreviations spelled.raw ≡ Ok shorts
-  pub schemes : List SchemeTree
-  pub principal : ArePrincipal program (length program.functions) schemes
+-- This is a call in the program that the bytes spell, given its principal schemes; the call has a type, and the text and
+-- the status are those of its meaning's outcome at the budget, with the steps of the code's run if they are counted. A
+-- number of its value is 0 if its unit isn't closed.
+pub record IsMeantCall (way : Way) (asked : AskedCall) (bytes text : List ℕ) (status : Status) : Type 0 where
+  pub checked : CheckedTree
+  pub spelled : IsCheckedText bytes checked
+  pub principal : ArePrincipal checked.text.program (length checked.text.program.functions) checked.schemes
   pub call : CallTree
-  pub named : IsCallOf program shorts schemes (called_name words) (argument_texts words) (Ok call)
-  pub typed : IsTypedCall program call
+  pub named : IsAskedCall asked checked call
+  pub typed : IsTypedCall checked.text.program call
   pub outcome : OutcomeTree
-  pub meant : outcome_of_call program call.function (call_values call) budget ≡ Some outcome
-  pub free_zeros : (v : ValueTree) → outcome ≡ value_outcome v → IsFreeZero program.records v call.type
+  pub meant : outcome_of_call checked.text.program call.function (call_values call) asked.budget ≡ Some outcome
+  pub free_zeros : (v : ValueTree) → outcome ≡ value_outcome v → IsFreeZero checked.text.program.records v call.type
   pub steps : Option ℕ
-  pub counted : AreSteps way budget program call outcome steps
-  pub printed : IsOutcomeReply program call.type outcome steps text status
+  pub counted : AreSteps way asked.budget checked.text.program call outcome steps
+  pub printed : IsOutcomeReply checked.text.program call.type outcome steps text status
 
 -- A call that is answered with such a status ended as its meaning has it.
 abbrev pub EndedCallsAreMeant : Type 0
 EndedCallsAreMeant =
     (order : Order) (w : Way) (budget : ℕ) (words : List (List ℕ)) (bytes text : List ℕ) (status : Status) →
     IsCall order w budget → order_of words ≡ Some order → Answer words bytes text status →
-    IsTrue (ends_a_call status) → IsMeantCall w budget words bytes text status
+    IsTrue (ends_a_call status) → IsMeantCall w (called budget words) bytes text status
 
 -- ---- signatures
 
@@ -92,18 +88,18 @@ is_verdict status = false
 -- The words name a function of the program that the bytes spell, and a signature. With status 0 each instance of the
 -- signature is a typing of the function, and otherwise not each is.
 pub record IsVerdict (words : List (List ℕ)) (bytes text : List ℕ) (status : Status) : Type 0 where
-  pub program : ProgramTree
-  pub spelled : SpellsProgram bytes program
-  pub shorts : List Abbreviation
-  pub abbreviated : resolved_abbreviations spelled.raw ≡ Ok shorts
+  pub checked : CheckedTree
+  pub spelled : IsCheckedText bytes checked
   pub number : ℕ
-  pub named : number_of (function_names program.functions) (held_name words) ≡ Some number
+  pub named : number_of (function_names checked.text.program.functions) (held_name words) ≡ Some number
   pub signature : Signature
-  pub read : IsRead program shorts (chars (signature_text words)) (length (signature_text words)) (Ok signature)
+  pub read :
+      IsRead checked.text.program checked.text.abbreviations (chars (signature_text words))
+      (length (signature_text words)) (Ok signature)
   pub verdict :
-      ((status ≡ Done) × AreAllTypings program number (type_trees signature.types)
+      ((status ≡ Done) × AreAllTypings checked.text.program number (type_trees signature.types)
       × (text ≡ line (held_name words ++ codes " conforms")))
-      ⊎ ((status ≡ NotConform) × (AreAllTypings program number (type_trees signature.types) → ⊥))
+      ⊎ ((status ≡ NotConform) × (AreAllTypings checked.text.program number (type_trees signature.types) → ⊥))
 
 abbrev pub VerdictsSayWhatTypingsAre : Type 0
 VerdictsSayWhatTypingsAre =

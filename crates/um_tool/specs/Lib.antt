@@ -1,4 +1,5 @@
--- What a reader must trust, in reading order: the answer, when each of its steps goes through, what a run writes.
+-- What a reader must trust, in reading order: the words of an order, the answer, when it is done, what a run writes.
+pub mod Asked
 pub mod Answer
 pub mod Passing
 pub mod Served
@@ -6,5 +7,3 @@ pub mod Served
 pub mod Laws
 pub mod CallLaws
 pub mod ScaleLaws
--- What mirrors the code: a text that is being read.
-pub mod Reading

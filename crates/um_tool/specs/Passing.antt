@@ -1,40 +1,38 @@
--- What is asked of a program and of the words, so that every step of the answer behind the grammar goes through.
+-- What is asked of the words and the bytes so that every step of the answer goes through.
 -- Source: this project's own.
-use Rattle.std.specs.Prelude.{ℕ, ℤ, ◌≡◌, List, slice_get, Some, None, Ok}
+use Rattle.std.specs.Prelude.{ℕ, ◌-◌, List}
 use Rattle.um_tree.specs.RawTree.{DeclSyntax}
-use Rattle.um_tree.specs.ProgramTree.{FunctionTree, ProgramTree, Signature}
-use Rattle.um_tree.specs.Typing.{Typing}
-use Rattle.um_names.specs.Resolution.{resolved_program}
-use Rattle.um_shape.specs.FirstFault.{first_fault}
-use Rattle.um_infer.specs.Inference.{infer}
-use Rattle.um_infer.specs.Laws.{IsLimited}
-use Rattle.um_proof.specs.Proving.{PassesInFunction}
 use Rattle.um_orders.specs.declared.order.Order.{Order}
-use Rattle.um_orders.specs.declared.order.Order.TheVariants.{Fmt, Prove}
-use Rattle.um_answers.specs.Passing.{PassesOn}
+use Rattle.um_orders.specs.declared.order.Order.TheVariants.{Types, Code, Fmt, Run, Steps, Eval, Conform}
+use Rattle.um_orders.specs.declared.order.Order.TheVariants.{Rescale, Twin, Big, Prove, Image, Exec}
+use Rattle.um_front.specs.Stages.{IsReadText, CheckedTree, IsCheckedText}
+use Rattle.um_answers.specs.Passing.{IsTypedText, IsProvableText, HasTypings, HasSizes}
+use Rattle.um_call_answers.specs.AskedCall.{AskedCall}
+use Rattle.um_call_answers.specs.BigText.{big_text}
+use Rattle.um_call_answers.specs.BigAnswer.{last_call}
+use Rattle.um_call_answers.specs.ExecAnswer.{GivesImageValue}
+use Rattle.um_call_answers.specs.Passing.{GivesValue, GivesTwins}
+use Rattle.um_tool.specs.Asked.{called, held_name, signature_text, rescale_sizes, twin_sizes, called_twice}
 
-abbrev pub EachIsTyped : ProgramTree → Type 0
-EachIsTyped p = (i : ℕ) (f : FunctionTree) → slice_get p.functions i ≡ Some f → (g : Signature) × Typing p i g
+-- the text has its schemes, and this holds of its program
+abbrev pub IsCheckedWith : List ℕ → (CheckedTree → Type 0) → Type 0
+IsCheckedWith bytes Holds = (c : CheckedTree) × IsCheckedText bytes c × Holds c
 
--- the names are known, the shapes are right, each function has a typing, and no limit of slots or powers is passed
-pub record IsTyped (raw : List DeclSyntax) : Type 0 where
-  pub program : ProgramTree
-  pub resolved : resolved_program raw ≡ Ok program
-  pub faultless : first_fault program ≡ None
-  pub typed : EachIsTyped program
-  pub unlimited : IsLimited (infer program) → ⊥
+abbrev pub CallGoesThrough : AskedCall → List ℕ → Type 0
+CallGoesThrough asked bytes = IsCheckedWith bytes (λ c. GivesValue asked c)
 
--- the names are known, the shapes are right, no limit of slots or powers is passed, and no number passes what a
--- certificate can hold
-pub record IsProvable (raw : List DeclSyntax) : Type 0 where
-  pub program : ProgramTree
-  pub resolved : resolved_program raw ≡ Ok program
-  pub faultless : first_fault program ≡ None
-  pub unlimited : IsLimited (infer program) → ⊥
-  pub held : (i : ℕ) (number : ℤ) → PassesInFunction program i number → ⊥
-
--- each step behind the grammar goes through
-abbrev pub GoesThrough : Order → List (List ℕ) → List DeclSyntax → Type 0
-GoesThrough Fmt words raw = Unit {0}
-GoesThrough Prove words raw = IsProvable raw
-GoesThrough order words raw = (typed : IsTyped raw) × PassesOn order words raw typed.program
+abbrev pub GoesThrough : Order → List (List ℕ) → List ℕ → Type 0
+GoesThrough Types words bytes = IsTypedText bytes
+GoesThrough Code words bytes = IsTypedText bytes
+GoesThrough Fmt words bytes = (raw : List DeclSyntax) × IsReadText bytes raw
+GoesThrough (Run budget) words bytes = CallGoesThrough (called budget words) bytes
+GoesThrough (Steps budget) words bytes = CallGoesThrough (called budget words) bytes
+GoesThrough (Eval budget) words bytes = CallGoesThrough (called budget words) bytes
+GoesThrough Conform words bytes = IsCheckedWith bytes (λ c. HasTypings (held_name words) (signature_text words) c)
+GoesThrough Rescale words bytes = IsCheckedWith bytes (λ c. HasSizes (rescale_sizes words) c.text.program)
+GoesThrough (Twin budget) words bytes =
+    IsCheckedWith bytes (λ c. GivesTwins (twin_sizes words) (called_twice budget words) c)
+GoesThrough (Big n) words bytes = CallGoesThrough (last_call (n - 1)) (big_text n)
+GoesThrough Prove words bytes = IsProvableText bytes
+GoesThrough Image words bytes = IsTypedText bytes
+GoesThrough (Exec budget) words bytes = GivesImageValue (called budget words) bytes

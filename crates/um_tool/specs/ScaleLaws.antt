@@ -1,13 +1,11 @@
 -- What answers to `rescale` and `twin` say, in the subject's words.
 -- Source: the scaling law, and that a number at an open unit is 0, are Kennedy's (1997).
-use Rattle.std.specs.Prelude.{ℕ, ◌≡◌, IsTrue, List, Some, Ok}
+use Rattle.std.specs.Prelude.{ℕ, ◌≡◌, IsTrue, List, Some}
 use Rattle.um_frac.specs.declared.number.Frac.{Frac}
 use Rattle.um_tree.specs.ValueTree.{ValueTree, OutcomeTree, value_outcome}
-use Rattle.um_tree.specs.ProgramTree.{ProgramTree, SchemeTree}
+use Rattle.um_tree.specs.ProgramTree.{ProgramTree}
 use Rattle.um_tree.specs.Meaning.{outcome_of_call}
-use Rattle.um_measures.specs.declared.abbreviation.Abbreviation.{Abbreviation}
-use Rattle.um_names.specs.Resolution.{resolved_abbreviations}
-use Rattle.um_run.specs.Calls.{CallTree, call_values, IsCallOf}
+use Rattle.um_run.specs.Calls.{CallTree, call_values}
 use Rattle.um_run.specs.Laws.{IsTypedCall}
 use Rattle.um_scaling.specs.RescaledProgram.{IsRescaled}
 use Rattle.um_scaling.specs.ScaledValues.{OutcomesScaled}
@@ -20,22 +18,24 @@ use Rattle.um_orders.specs.declared.order.Order.TheVariants.{Rescale, Twin}
 use Rattle.um_orders.specs.Orders.{order_of}
 use Rattle.um_reports.specs.declared.status.Status.{Status}
 use Rattle.um_reports.specs.declared.status.Status.TheVariants.{Done}
-use Rattle.um_answers.specs.Asked.{rescale_sizes, twin_sizes, twin_name, twin_texts}
-use Rattle.um_answers.specs.TwinAnswer.{rescaled_values, AreOutcomeReplies}
+use Rattle.um_front.specs.Stages.{CheckedTree, IsCheckedText}
+use Rattle.um_call_answers.specs.AskedCall.{AskedCall}
+use Rattle.um_call_answers.specs.TwinAnswer.{rescaled_values, AreOutcomeReplies}
+use Rattle.um_call_answers.specs.Passing.{IsAskedCall}
+use Rattle.um_tool.specs.Asked.{rescale_sizes, twin_sizes, called_twice}
 use Rattle.um_tool.specs.Answer.{Answer}
 use Rattle.um_tool.specs.CallLaws.{ends_a_call}
-use Rattle.um_tool.specs.Laws.{SpellsProgram}
 
 -- The program that the bytes spell, with the sizes of its base units that a word states, and in these sizes.
 pub record InSizes (word bytes : List ℕ) : Type 0 where
-  pub program : ProgramTree
-  pub spelled : SpellsProgram bytes program
+  pub checked : CheckedTree
+  pub spelled : IsCheckedText bytes checked
   pub stated : List (List ℕ × Frac)
   pub read : scales_in word ≡ Some stated
   pub scales : List Frac
-  pub sized : AreSizesOf program.bases stated scales
+  pub sized : AreSizesOf checked.text.program.bases stated scales
   pub other : ProgramTree
-  pub rescaled : IsRescaled (sizes scales) program other
+  pub rescaled : IsRescaled (sizes scales) checked.text.program other
 
 -- What `rescale` prints with status 0 are the bytes with the numbers of the rescaled program.
 abbrev pub RescaledTextsAreRescaled : Type 0
@@ -44,30 +44,29 @@ RescaledTextsAreRescaled =
     order_of words ≡ Some Rescale → Answer words bytes text Done →
     (s : InSizes (rescale_sizes words) bytes) × IsRescaledText bytes s.other text
 
--- The words name a call that has a type. Both outcomes are those of the meaning, the second in the program in other
--- sizes and on the arguments in other sizes. The second is the first one rescaled at the call's type, unless one of them
--- overflows; and a number of either value whose unit isn't closed is 0.
-pub record IsTwinCall (budget : ℕ) (words : List (List ℕ)) (bytes text : List ℕ) (status : Status) : Type 0 where
-  pub both : InSizes (twin_sizes words) bytes
-  pub shorts : List Abbreviation
-  pub abbreviated : resolved_abbreviations both.spelled.raw ≡ Ok shorts
-  pub schemes : List SchemeTree
+-- This is a call that has a type. Both outcomes are those of the meaning, the second in the program in other sizes and on
+-- the arguments in other sizes. The second is the first one rescaled at the call's type, unless one of them overflows; and
+-- a number of either value whose unit isn't closed is 0.
+pub record IsTwinCall (word : List ℕ) (asked : AskedCall) (bytes text : List ℕ) (status : Status) : Type 0 where
+  pub both : InSizes word bytes
   pub call : CallTree
-  pub named : IsCallOf both.program shorts schemes (twin_name words) (twin_texts words) (Ok call)
-  pub typed : IsTypedCall both.program call
+  pub named : IsAskedCall asked both.checked call
+  pub typed : IsTypedCall both.checked.text.program call
   pub first : OutcomeTree
-  pub meant : outcome_of_call both.program call.function (call_values call) budget ≡ Some first
+  pub meant : outcome_of_call both.checked.text.program call.function (call_values call) asked.budget ≡ Some first
   pub second : OutcomeTree
-  pub also_meant : outcome_of_call both.other call.function (rescaled_values both.scales call) budget ≡ Some second
-  pub related : OutcomesScaled both.program.records (sizes both.scales) first call.type second
+  pub also_meant :
+      outcome_of_call both.other call.function (rescaled_values both.scales call) asked.budget ≡ Some second
+  pub related :
+      OutcomesScaled both.checked.text.program.records (sizes both.scales) first call.type second
   pub free_zeros :
       (v w : ValueTree) → first ≡ value_outcome v → second ≡ value_outcome w →
-      IsFreeZero both.program.records v call.type × IsFreeZero both.program.records w call.type
-  pub printed : AreOutcomeReplies both.program call.type first second text status
+      IsFreeZero both.checked.text.program.records v call.type × IsFreeZero both.checked.text.program.records w call.type
+  pub printed : AreOutcomeReplies both.checked.text.program call.type first second text status
 
 -- Two calls that are answered with such a status ended as their meanings have it, and are related so.
 abbrev pub EndedTwinsAreRelated : Type 0
 EndedTwinsAreRelated =
     (budget : ℕ) (words : List (List ℕ)) (bytes text : List ℕ) (status : Status) →
     order_of words ≡ Some (Twin budget) → Answer words bytes text status → IsTrue (ends_a_call status) →
-    IsTwinCall budget words bytes text status
+    IsTwinCall (twin_sizes words) (called_twice budget words) bytes text status

@@ -24,8 +24,8 @@ pub fn ended_calls()
     ensures { EndedCallsAreMeant }
 {}
 
-/// A function conforms to a signature where each instance of the signature is a typing of it, and where it is refused
-/// for its form or its units not each is.
+/// A function conforms to a signature if each instance of the signature is a typing of it, and if it is refused for its
+/// form or its units not each is.
 pub fn verdicts()
     ensures { VerdictsSayWhatTypingsAre }
 {}
@@ -48,5 +48,5 @@ pub fn answers_are_unique()
     ensures { AnswersAreUnique }
 {
     um_parse::laws::answers_are_unique();
-    um_answers::laws::answers_of_images();
+    um_call_answers::laws::answers_of_images();
 }

@@ -7,14 +7,14 @@
 //! ```
 #![tactic(auto)]
 
-mod answer;
+mod dispatch;
 pub mod laws;
 mod quiet;
-mod reading;
 mod top;
+mod words;
 
 pub use quiet::status_of;
 pub use top::serve;
-pub use um_big::big_text;
+pub use um_call_answers::big_text;
 pub use um_orders::{Order, Words, order_of};
 pub use um_reports::Status;

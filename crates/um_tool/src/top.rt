@@ -1,19 +1,17 @@
 // The top call.
 ghost use Rattle.std.specs.Prelude.{◌≡◌, ◌≢◌, ◌≤◌, IfOk, Some};
 ghost use Rattle.um_wire.specs.Faults.{Rose};
-ghost use Rattle.um_big.specs.BigText.{big_text as generated};
-ghost use Rattle.um_tool.specs.Answer.{TokensAnswer};
-ghost use Rattle.um_orders.specs.Orders.{order_of as order_named, intake_of, AsksFor, IsText};
+ghost use Rattle.um_orders.specs.Orders.{order_of as order_named, order_about};
 ghost use Rattle.um_tool.specs.Served.{IsPlanned, IsUndisturbed, Reads, Serves};
 
-use crate::answer::answer_text;
-use crate::reading::Reading;
-use std::alloc::{AllocError, Global};
-use um_answers::answer_exec;
-use um_answers::laws::answers_of_images;
-use um_big::big_text;
-use um_orders::{Intake, Order, Words, order_of};
-use um_reports::{Reply, Status, reply_line, reply_to_unread};
+use crate::dispatch::answer_text;
+use crate::words::called;
+use std::alloc::Global;
+use um_call_answers::laws::answers_of_images;
+use um_call_answers::{answer_big, answer_exec};
+use um_front::{Answer, Reading};
+use um_orders::{Intake, Order, TextOrder, Words, order_of};
+use um_reports::{Status, reply_line, reply_to_unread};
 use um_wire::{Failed, Sink, Source, read_into, read_text, write_all};
 
 /// The longest text that is read, in bytes.
@@ -32,15 +30,15 @@ pub fn serve<S: Source, K: Sink>(
     sink: &mut K,
 ) -> Status
     // The bytes that were added to the sink and the status are one of four pairs: an answer, the line on a failed
-    // read, a prefix of one of these where a write failed, nothing where memory was wanting.
+    // read, a prefix of one of these if a write failed, nothing if memory was wanting.
     ensures served { Serves (IsPlanned words.now (S.left source.old) (S.faults source.old) (S.faults source.new))
         (K.taken sink.old) (K.taken sink.new) (K.faults sink.old) (K.faults sink.new) result }
 
-    // A fault of reading or writing is told only where the count of the source or the sink rose.
+    // A fault of reading or writing is told only if the count of the source or the sink rose.
     ensures read_fault { result ≡ Status.ReadFault → Rose (S.faults source.old) (S.faults source.new) }
     ensures write_fault { result ≡ Status.WriteFault → Rose (K.faults sink.old) (K.faults sink.new) }
 
-    // Where every step goes through and nothing fails, the order is done, or memory was wanting.
+    // If every step goes through and nothing fails, the order is done, or memory was wanting.
     ensures complete { IsUndisturbed words.now (S.left source.old) (S.faults source.old) (S.faults source.new)
         → ¬ (Rose (K.faults sink.old) (K.faults sink.new)) → result ≢ Status.NoMemory → result ≡ Status.Done }
 
@@ -57,7 +55,7 @@ pub fn serve<S: Source, K: Sink>(
 }
 
 /// What the run is about to write.
-fn reply_to<S: Source>(alloc: Global, words: &Words, source: &mut S) -> Result<Reply, AllocError>
+fn reply_to<S: Source>(alloc: Global, words: &Words, source: &mut S) -> Answer
     ensures planned { IfOk result (λ reply. IsPlanned words.now (S.left source.old)
         (S.faults source.old) (S.faults source.new) reply.text.items reply.status) }
     ensures read_fault { IfOk result (λ reply. reply.status ≡ Status.ReadFault
@@ -75,53 +73,28 @@ fn reply_to<S: Source>(alloc: Global, words: &Words, source: &mut S) -> Result<R
     }
 }
 
-/// What the run is about to write where the words name this order.
-fn reply_to_order<S: Source>(
-    alloc: Global,
-    order: Order,
-    words: &Words,
-    source: &mut S,
-) -> Result<Reply, AllocError>
-    requires asks { AsksFor words.now order (intake_of order) }
+/// What the run is about to write if the words name this order.
+fn reply_to_order<S: Source>(alloc: Global, order: Order, words: &Words, source: &mut S) -> Answer
+    requires ordered { order_named words.now ≡ Some order }
     ensures planned { IfOk result (λ reply. IsPlanned words.now (S.left source.old)
         (S.faults source.old) (S.faults source.new) reply.text.items reply.status) }
     ensures unread { (Reads words.now → ⊥) → source.new ≡ source.old }
 {
     match order.intake() {
-        Intake::Text => reply_to_source(alloc, order, words, source),
-        Intake::Generated { functions } => reply_to_generated(alloc, order, words, functions),
+        Intake::Generated { functions } => answer_big(alloc, functions),
+        Intake::Text(order) => reply_to_text(alloc, order, words, source),
         Intake::Bytes { budget } => reply_to_bytes(alloc, budget, words, source),
     }
 }
 
-/// What the run is about to write about a generated program of so many functions.
-fn reply_to_generated(
+/// What the run is about to write if this is asked of a text.
+fn reply_to_text<S: Source>(
     alloc: Global,
-    order: Order,
-    words: &Words,
-    functions: u32,
-) -> Result<Reply, AllocError>
-    requires ordered { order_named words.now ≡ Some order }
-    requires text { IsText (intake_of order) }
-    requires some { 1 ≤ functions }
-    requires few { functions ≤ 2000 }
-    ensures { IfOk result (λ reply. TokensAnswer order words.now (generated functions)
-        reply.text.items reply.status) }
-{
-    let bytes = big_text(alloc, functions)?;
-    let text = Reading::of_bytes(alloc, &bytes);
-    drop(bytes);
-    answer_text(alloc, order, words, text?)
-}
-
-/// What the run is about to write where the order takes a text.
-fn reply_to_source<S: Source>(
-    alloc: Global,
-    order: Order,
+    order: TextOrder,
     words: &Words,
     source: &mut S,
-) -> Result<Reply, AllocError>
-    requires asks { AsksFor words.now order Intake.Text }
+) -> Answer
+    requires ordered { order_named words.now ≡ Some (order_about order) }
     ensures { IfOk result (λ reply. IsPlanned words.now (S.left source.old)
         (S.faults source.old) (S.faults source.new) reply.text.items reply.status) }
 {
@@ -132,19 +105,14 @@ fn reply_to_source<S: Source>(
     }
 }
 
-/// What the run is about to write where the order takes the bytes of an image.
-fn reply_to_bytes<S: Source>(
-    alloc: Global,
-    budget: u64,
-    words: &Words,
-    source: &mut S,
-) -> Result<Reply, AllocError>
+/// What the run is about to write if a function of an image is called.
+fn reply_to_bytes<S: Source>(alloc: Global, budget: u64, words: &Words, source: &mut S) -> Answer
     requires ordered { order_named words.now ≡ Some (Order.Exec budget) }
     ensures { IfOk result (λ reply. IsPlanned words.now (S.left source.old)
         (S.faults source.old) (S.faults source.new) reply.text.items reply.status) }
 {
     match read_text(alloc, source, IMAGE_LIMIT) {
-        Ok(bytes) => answer_exec(alloc, budget, words, &bytes),
+        Ok(bytes) => answer_exec(alloc, &called(words, budget, 2), &bytes),
         Err(stop) => reply_to_unread(alloc, stop),
     }
 }

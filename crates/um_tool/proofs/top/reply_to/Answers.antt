@@ -1,4 +1,4 @@
-use Rattle.std.proofs.Common.{refl, sym}
+use Rattle.std.proofs.Common.{sym}
 use Rattle.um_sig.proofs.UniqueReadings.{readings_are_unique}
 use Rattle.um_tool.proofs.Serving.{if_ok, usage_planned, planned_read_fault, planned_write_fault}
 use Rattle.um_tool.proofs.Complete.{planned_complete}
@@ -11,7 +11,7 @@ returns-in-None-clause-planned g c =
     c.reply_line.ensures
 
 pub reply_to_order-requires : goal.reply_to_order-requires
-reply_to_order-requires g c = record { asks = record { ordered = sym c.in-Some.ensures; takes = refl } }
+reply_to_order-requires g c = record { ordered = sym c.in-Some.ensures }
 
 pub returns-in-Some-clause-read_fault : goal.returns-in-Some-clause-read_fault
 returns-in-Some-clause-read_fault g c =

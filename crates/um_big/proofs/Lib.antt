@@ -1,3 +1,0 @@
-pub mod Lengths
-mod AddedTexts
-mod Examples

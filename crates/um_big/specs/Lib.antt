@@ -1,2 +1,0 @@
--- What is trusted: the text of a large program.
-pub mod BigText

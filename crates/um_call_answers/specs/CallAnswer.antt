@@ -1,0 +1,67 @@
+-- The answer to a call of a function: the call that the words name, how it ends, and how that is printed.
+-- Source: this project's own; the outcome is that of the meaning (`um_tree`), by whatever runner.
+use Rattle.std.specs.Prelude.{ℕ, ◌≡◌, IsTrue, List, [], ◌++◌, codes, decimal, Option, Result, Ok, Err, Some, None}
+use Rattle.um_tree.specs.TypeTree.{TypeTree}
+use Rattle.um_tree.specs.ValueTree.{ValueTree, OutcomeTree, value_outcome, trap_outcome, budget_outcome}
+use Rattle.um_tree.specs.ProgramTree.{ProgramTree}
+use Rattle.um_tree.specs.Meaning.{outcome_of_call}
+use Rattle.um_show.specs.ValueText.{value_text, parts_fit}
+use Rattle.um_gen.specs.ProgramCode.{program_code}
+use Rattle.um_vm.specs.Counting.{CountsSteps}
+use Rattle.um_run.specs.declared.call.CallRefusal.{CallRefusal}
+use Rattle.um_run.specs.Calls.{CallTree, call_values, IsCallOf}
+use Rattle.um_call_answers.specs.declared.way.Way.{Way}
+use Rattle.um_call_answers.specs.declared.way.Way.TheVariants as way
+use Rattle.um_reports.specs.declared.status.Status.{Status}
+use Rattle.um_reports.specs.declared.status.Status.TheVariants.{Done, BudgetEnd}
+use Rattle.um_front.specs.Stages.{CheckedTree}
+use Rattle.um_front.specs.Staged.{OfChecked}
+use Rattle.um_call_answers.specs.AskedCall.{AskedCall}
+use Rattle.um_reports.specs.CallRefusals.{IsCallReply, IsCallRangeReply, IsTrapReply}
+use Rattle.um_reports.specs.Steps.{line, IsReply, Cases}
+
+-- the line after a value, if its steps were counted
+abbrev pub steps_text : Option ℕ → List ℕ
+steps_text None = []
+steps_text (Some k) = line (codes "steps " ++ decimal k)
+
+-- the value at the type, if the types of its parts have their powers in range
+abbrev pub IsValueReply : ProgramTree → TypeTree → ValueTree → Option ℕ → List ℕ → Status → Type 0
+IsValueReply p t v steps text status =
+    Cases (IsTrue (parts_fit p v t)) (IsReply text status (line (value_text p v t) ++ steps_text steps) Done)
+    (IsCallRangeReply text status)
+
+-- how a call with a result of the type ended
+abbrev pub IsOutcomeReply : ProgramTree → TypeTree → OutcomeTree → Option ℕ → List ℕ → Status → Type 0
+IsOutcomeReply p t (value_outcome v) steps text status = IsValueReply p t v steps text status
+IsOutcomeReply p t (trap_outcome why) steps text status = IsTrapReply why text status
+IsOutcomeReply p t budget_outcome steps text status = IsReply text status (line (codes "error 13: budget")) BudgetEnd
+
+-- if steps are counted, their number up to the end of the run of the program's code
+abbrev pub AreSteps : Way → ℕ → ProgramTree → CallTree → OutcomeTree → Option ℕ → Type 0
+AreSteps way.Tree budget p call o steps = steps ≡ None
+AreSteps way.Code budget p call o steps = steps ≡ None
+AreSteps way.Counted budget p call o steps =
+    (k : ℕ) × CountsSteps (program_code p.functions) call.function (call_values call) budget o k × (steps ≡ Some k)
+
+-- the call ends as its meaning has it at the budget, whichever way it is run
+unfoldable pub RunAnswer : Way → ℕ → ProgramTree → CallTree → List ℕ → Status → Type 0
+RunAnswer way budget p call text status =
+    (o : OutcomeTree) × (outcome_of_call p call.function (call_values call) budget ≡ Some o)
+    × (steps : Option ℕ) × AreSteps way budget p call o steps × IsOutcomeReply p call.type o steps text status
+
+-- the call, or its refusal
+abbrev pub ByCall : Way → AskedCall → ProgramTree → Result CallTree CallRefusal → List ℕ → Status → Type 0
+ByCall way asked p (Ok call) text status = RunAnswer way asked.budget p call text status
+ByCall way asked p (Err refusal) text status = IsCallReply asked.texts refusal text status
+
+-- the call of the function of this name on the arguments that the texts are
+unfoldable pub IsCallAnswer : Way → AskedCall → CheckedTree → List ℕ → Status → Type 0
+IsCallAnswer way asked c text status =
+    (r : Result CallTree CallRefusal)
+    × IsCallOf c.text.program c.text.abbreviations c.schemes asked.name asked.texts r
+    × ByCall way asked c.text.program r text status
+
+-- of a text's program
+unfoldable pub CallAnswer : Way → AskedCall → List ℕ → List ℕ → Status → Type 0
+CallAnswer way asked bytes text status = OfChecked (IsCallAnswer way asked) bytes text status

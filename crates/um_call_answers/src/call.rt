@@ -1,0 +1,158 @@
+// The answer to a call of a function.
+ghost use Rattle.std.specs.Prelude.{◌≡◌, IfOk, Some, None};
+ghost use Rattle.um_tree.specs.ValueTree.{outcome_tree};
+ghost use Rattle.um_tree.specs.ProgramTree.{program_tree};
+ghost use Rattle.um_tree.specs.Meaning.{outcome_of_call};
+ghost use Rattle.um_run.specs.Calls.{call_tree, call_values};
+ghost use Rattle.um_front.specs.Parts.{checked_tree};
+ghost use Rattle.um_call_answers.specs.AskedCall.{IsShortCall};
+ghost use Rattle.um_call_answers.specs.CallAnswer.{CallAnswer, IsCallAnswer, RunAnswer, AreSteps};
+ghost use Rattle.um_call_answers.specs.Calling.{asked_call, CanRun};
+
+use crate::call_words::CallWords;
+use crate::outcome::{Ended, reply_to_outcome};
+use crate::way::Way;
+use std::alloc::{AllocError, Global};
+use um_eval::TreeRunner;
+use um_front::{Answer, Checked, Text, check};
+use um_gen::generate;
+use um_reports::reply_to_call;
+use um_run::{Call, argument_values, read_call};
+use um_shape::Shaped;
+use um_value::Runner;
+use um_vm::{CodeRunner, CountedOutcome};
+
+/// The answer to an order that calls a function of a text's program.
+///
+/// The budget is at most 10,000,000, and no text of an argument is longer than 1,048,576 bytes. Want of memory is the one
+/// error; each refusal is an answer. The rules are this project's own.
+#[tactic(auto, unfolding(crate::specs::CallAnswer::CallAnswer))]
+pub fn answer_call(alloc: Global, way: Way, call: &CallWords, text: Text) -> Answer
+    requires call { IsShortCall (asked_call call.now) }
+    ensures { IfOk result (λ reply. CallAnswer way (asked_call call.now) text reply.text.items reply.status) }
+{
+    match check(alloc, text) {
+        Ok(checked) => answer_whole(alloc, way, call, checked),
+        Err(refused) => refused,
+    }
+}
+
+/// The answer in a program with its schemes.
+fn answer_whole(alloc: Global, way: Way, call: &CallWords, checked: Checked) -> Answer
+    requires call { IsShortCall (asked_call call.now) }
+    ensures { IfOk result (λ reply. IsCallAnswer way (asked_call call.now) (checked_tree checked)
+        reply.text.items reply.status) }
+{
+    let answer = answer_checked(alloc, way, call, &checked);
+    drop(checked);
+    answer
+}
+
+/// The same, and the program is kept.
+#[tactic(auto, unfolding(crate::specs::CallAnswer::IsCallAnswer))]
+pub(crate) fn answer_checked(alloc: Global, way: Way, call: &CallWords, checked: &Checked) -> Answer
+    requires call { IsShortCall (asked_call call.now) }
+    ensures { IfOk result (λ reply. IsCallAnswer way (asked_call call.now) (checked_tree checked.now)
+        reply.text.items reply.status) }
+{
+    let shaped = checked.shaped();
+    let schemes = checked.schemes();
+    let abbreviations = checked.abbreviations();
+    match read_call(alloc, shaped, schemes, abbreviations, call.name, call.texts) {
+        Ok(read) => answer_run(alloc, way, call.budget, shaped, read),
+        Err(refusal) => reply_to_call(alloc, call.texts, refusal),
+    }
+}
+
+/// How a call that has a type ends, with its value at its type.
+fn answer_run(alloc: Global, way: Way, budget: u64, shaped: &Shaped, call: Call) -> Answer
+    requires can { CanRun budget (program_tree shaped.now) (call_tree call) }
+    ensures { IfOk result (λ reply. RunAnswer way budget (program_tree shaped.now) (call_tree call)
+        reply.text.items reply.status) }
+{
+    let reply = reply_to_run(alloc, way, budget, shaped, &call);
+    drop(call);
+    reply
+}
+
+/// The same, and the call is kept.
+#[tactic(auto, unfolding(crate::specs::CallAnswer::RunAnswer))]
+fn reply_to_run(alloc: Global, way: Way, budget: u64, shaped: &Shaped, call: &Call) -> Answer
+    requires can { CanRun budget (program_tree shaped.now) (call_tree call.now) }
+    ensures { IfOk result (λ reply. RunAnswer way budget (program_tree shaped.now) (call_tree call.now)
+        reply.text.items reply.status) }
+{
+    let ended = end_of(alloc, way, budget, shaped, call)?;
+    let reply = reply_to_outcome(alloc, shaped.program(), &ended, &call.ty);
+    drop(ended);
+    reply
+}
+
+/// The outcome of the call, run this way.
+fn end_of(
+    alloc: Global,
+    way: Way,
+    budget: u64,
+    shaped: &Shaped,
+    call: &Call,
+) -> Result<Ended, AllocError>
+    requires can { CanRun budget (program_tree shaped.now) (call_tree call.now) }
+    ensures outcome { IfOk result (λ ended. outcome_of_call (program_tree shaped.now) call.now.function
+        (call_values (call_tree call.now)) budget ≡ Some (outcome_tree ended.outcome)) }
+    ensures steps { IfOk result (λ ended. AreSteps way budget (program_tree shaped.now) (call_tree call.now)
+        (outcome_tree ended.outcome) ended.steps) }
+{
+    match way {
+        Way::Tree => run_by_tree(alloc, budget, shaped, call),
+        Way::Code => Ok(run_by_code(alloc, budget, shaped, call)?.without_steps()),
+        Way::Counted => run_by_code(alloc, budget, shaped, call),
+    }
+}
+
+/// The outcome by the program's tree.
+fn run_by_tree(
+    alloc: Global,
+    budget: u64,
+    shaped: &Shaped,
+    call: &Call,
+) -> Result<Ended, AllocError>
+    requires can { CanRun budget (program_tree shaped.now) (call_tree call.now) }
+    ensures outcome { IfOk result (λ ended. outcome_of_call (program_tree shaped.now) call.now.function
+        (call_values (call_tree call.now)) budget ≡ Some (outcome_tree ended.outcome)) }
+    ensures steps { IfOk result (λ ended. ended.steps ≡ None) }
+{
+    let values = argument_values(alloc, &call.inputs)?;
+    let outcome = TreeRunner::new(shaped).call(alloc, call.function, values, budget)?;
+    Ok(Ended {
+        outcome,
+        steps: None,
+    })
+}
+
+/// The outcome by the program's code, and the number of its steps.
+fn run_by_code(
+    alloc: Global,
+    budget: u64,
+    shaped: &Shaped,
+    call: &Call,
+) -> Result<Ended, AllocError>
+    requires can { CanRun budget (program_tree shaped.now) (call_tree call.now) }
+    ensures outcome { IfOk result (λ ended. outcome_of_call (program_tree shaped.now) call.now.function
+        (call_values (call_tree call.now)) budget ≡ Some (outcome_tree ended.outcome)) }
+    ensures steps { IfOk result (λ ended. AreSteps Way.Counted budget (program_tree shaped.now) (call_tree call.now)
+        (outcome_tree ended.outcome) ended.steps) }
+{
+    let code = generate(alloc, shaped)?;
+    let values = argument_values(alloc, &call.inputs)?;
+    let runner = CodeRunner::new(shaped, &code);
+    let CountedOutcome { outcome, steps } = runner.count_steps(
+        alloc,
+        call.function,
+        values,
+        budget,
+    )?;
+    Ok(Ended {
+        outcome,
+        steps: Some(steps),
+    })
+}

@@ -1,0 +1,6 @@
+mod Excluded
+mod RefusedOnce
+pub mod RefusalStatuses
+pub mod CheckedTexts
+pub mod StageLaws
+pub mod TooLongTexts

@@ -1,0 +1,8 @@
+-- What a reader must trust, in reading order: the stages of a text, which texts each refuses and how, and what a
+-- command says of them.
+pub mod Stages
+pub mod Refused
+pub mod Staged
+-- What mirrors the code: its values, and a text that is being read.
+pub mod Parts
+pub mod Reading

@@ -1,0 +1,31 @@
+//! From the bytes of a text to its program with the schemes of its functions: the stages that all commands share.
+//!
+//! Each stage gives its value, or the answer that a text without one gets: the report line and the status of the first
+//! stage that fails.
+//!
+//! ```
+//! match check(alloc, Text::of_bytes(alloc, bytes)?) {
+//!     Ok(checked) => .., // the program as it is written, its shapes, its abbreviations and its schemes
+//!     Err(refused) => refused,
+//! }
+//! ```
+#![tactic(auto)]
+
+mod checked;
+mod checking;
+mod parts;
+mod reading;
+mod shaping;
+mod text;
+mod tree;
+
+pub use checked::Checked;
+pub use checking::{check, function_at};
+pub use parts::{CheckedParts, ReadText, ShapedText};
+pub use reading::Reading;
+pub use shaping::shape_text;
+pub use text::{Text, TextParts};
+pub use tree::read;
+
+/// The answer to an order, or want of memory.
+pub type Answer = Result<um_reports::Reply, std::alloc::AllocError>;

@@ -1,0 +1,26 @@
+// What the stages give.
+use um_measures::Abbreviations;
+use um_shape::Shaped;
+use um_tree::{RawProgram, Schemes};
+
+/// The bytes of a text, and its program as it is written.
+#[derive(Drop)]
+pub struct ReadText {
+    pub bytes: Vec<u8>,
+    pub raw: RawProgram,
+}
+
+/// A text that was read, its program with a shape for each node, and its abbreviations.
+#[derive(Drop)]
+pub struct ShapedText {
+    pub text: ReadText,
+    pub shaped: Shaped,
+    pub abbreviations: Abbreviations,
+}
+
+/// The same, with the scheme of each function. [`crate::Checked`] keeps what is known of them.
+#[derive(Drop)]
+pub struct CheckedParts {
+    pub text: ShapedText,
+    pub schemes: Schemes,
+}
