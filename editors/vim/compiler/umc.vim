@@ -8,6 +8,12 @@ if exists("current_compiler")
 endif
 let current_compiler = "umc"
 
+" umc counts columns by characters, and Vim by bytes.
+augroup um_columns
+  autocmd!
+  autocmd QuickFixCmdPost make if get(b:, "current_compiler", "") ==# "umc" | call um#PutColumnsRight() | endif
+augroup END
+
 let s:program = escape(get(g:, "umc_program", "umc"), ' \|"')
 execute 'CompilerSet makeprg=(echo\ in\ %:p:S;\ ' . s:program . '\ types\ <\ %:p:S)'
 CompilerSet errorformat=%-Pin\ %f,error\ %n:\ %m\ at\ %l:%c,error\ %n:\ %m,%-G%.%#

@@ -1,0 +1,101 @@
+"""What the tests share: the program, calls of `um`, and which commands the program has.
+
+The tests ask the program that UMC names, otherwise the proved program of the checkout. They never build one.
+"""
+import json
+import os
+import subprocess
+import sys
+from collections.abc import Callable, Sequence
+from dataclasses import dataclass
+from pathlib import Path
+from typing import Any
+
+import pytest
+
+HOME = Path(__file__).resolve().parents[2]
+UM = HOME / "um"
+BUILT = HOME / "crates/umc/out/umc"
+sys.path.insert(0, str(HOME / "python"))
+
+PROGRAM = Path(os.environ.get("UMC") or BUILT).absolute()
+
+
+def pytest_configure(config: pytest.Config) -> None:
+    """The tests are nothing without a program."""
+    config.addinivalue_line("markers", "needs(command): a test that needs a command which not every program has")
+    if not os.access(PROGRAM, os.X_OK):
+        pytest.exit(f"there is no program {PROGRAM}: UMC=PROGRAM names one", returncode=2)
+    os.environ["UMC"] = str(PROGRAM)
+    for name in ("NO_COLOR", "UM_PATH"):
+        os.environ.pop(name, None)
+
+
+def lacks(command: str | None) -> bool:
+    """Whether the program has no such command."""
+    from umc.program import Program
+    return command is not None and not Program(PROGRAM).has(command)
+
+
+def pytest_runtest_setup(item: pytest.Item) -> None:
+    """Skips what the program can't do yet."""
+    for mark in item.iter_markers("needs"):
+        if lacks(mark.args[0]):
+            pytest.skip(f"this umc has no command '{mark.args[0]}'")
+
+
+@dataclass(frozen=True)
+class Run:
+    """What a run of `um` ended with."""
+
+    status: int
+    out: str
+    err: str
+
+    @property
+    def objects(self) -> list[Any]:
+        """The lines of standard output as JSON."""
+        return [json.loads(line) for line in self.out.splitlines()]
+
+
+def run(*words: str | Path, stdin: str | bytes = b"", cwd: Path = HOME, timeout: float = 100,
+        **environment: str) -> Run:
+    """Runs `um` on these words."""
+    done = subprocess.run([sys.executable, str(UM), *map(str, words)], cwd=cwd, capture_output=True, timeout=timeout,
+                          input=stdin.encode() if isinstance(stdin, str) else stdin,
+                          env={**os.environ, **environment})
+    return Run(done.returncode, done.stdout.decode("utf-8", "surrogateescape"),
+               done.stderr.decode("utf-8", "surrogateescape"))
+
+
+@pytest.fixture
+def um() -> Callable[..., Run]:
+    return run
+
+
+def answer(words: Sequence[str], text: str | bytes) -> tuple[int, str]:
+    """What the program itself answers."""
+    data = text.encode() if isinstance(text, str) else text
+    done = subprocess.run([str(PROGRAM), *words], input=data, capture_output=True)
+    return done.returncode, done.stdout.decode()
+
+
+@pytest.fixture
+def program(tmp_path: Path) -> Callable[[str | bytes, str], Path]:
+    """Writes a file of a program, and gives its path."""
+    def write(text: str | bytes, name: str = "a.um") -> Path:
+        path = tmp_path / name
+        path.write_bytes(text.encode() if isinstance(text, str) else text)
+        return path
+    return write
+
+
+@pytest.fixture
+def script(tmp_path: Path) -> Callable[[str], Path]:
+    """Writes a program of a shell that stands for umc, where a test needs one that misbehaves."""
+    def write(text: str) -> Path:
+        path = tmp_path / "script"
+        path.write_text(f"#!/bin/sh\n{text}\n")
+        path.chmod(0o755)
+        return path
+    return write

@@ -1,0 +1,49 @@
+"""The commands `./um ..` that documents show, with what they print."""
+import os
+import re
+import subprocess
+import sys
+
+import pytest
+
+from conftest import HOME, lacks
+
+from umc.commands import COMMANDS
+
+FILES = [path for pattern in ("*.md", "docs/*.md", "examples/**/*.md", "python/*.md", "library/*.md")
+         for path in sorted(HOME.glob(pattern))]
+
+
+def shown(path):
+    """Each command in a block of a document, with the lines that follow it."""
+    inside, found = False, None
+    for number, line in enumerate(path.read_text().splitlines(), 1):
+        if line.startswith("```"):
+            inside, found = not inside, None
+        elif inside and line.startswith("$ "):
+            found = [] if "./um " in line else None
+            if found is not None:
+                yield pytest.param(line[2:], found, id=f"{path.relative_to(HOME)}:{number}")
+        elif inside and found is not None:
+            found.append(line)
+
+
+EVERY = [case for path in FILES for case in shown(path)]
+
+
+def test_documents_show_commands():
+    assert len(EVERY) >= 10
+
+
+@pytest.mark.parametrize("line, lines", EVERY)
+def test_a_document_is_true(line, lines, tmp_path):
+    for name in re.findall(r"\./um ([a-z]+)", line):
+        if lacks(COMMANDS[name].needs):
+            pytest.skip(f"this umc has no command '{COMMANDS[name].needs}'")
+    (tmp_path / "python3").symlink_to(sys.executable)
+    done = subprocess.run(["bash", "-c", line], cwd=HOME, text=True, stdout=subprocess.PIPE, stderr=subprocess.STDOUT,
+                          env={**os.environ, "PATH": f"{tmp_path}:{os.environ['PATH']}"})
+    if lacks("explain") and re.match(r"[^ ]+:[0-9]+:[0-9]+: error ", done.stdout):
+        assert done.stdout.splitlines() == lines[:1]
+    else:
+        assert done.stdout.splitlines() == lines

@@ -1,0 +1,383 @@
+"""The program as a process: which one runs, signals, closed pipes, full disks, and files that can't be read."""
+import os
+import pty
+import shutil
+import signal
+import subprocess
+import sys
+import time
+from pathlib import Path
+
+import pytest
+
+from conftest import HOME, PROGRAM, UM, answer
+
+AREA = "area : num<m> -> num<m> -> num<m^2>\n"
+
+
+# ---- which program runs
+
+def test_there_is_no_program_where_umc_names_none(um, tmp_path):
+    found = um("types", "examples/area.um", UMC=str(tmp_path / "none"))
+    assert (found.status, found.out) == (69, "")
+    assert found.err == f"um: UMC={tmp_path}/none: there is no such program\n"
+
+
+def test_a_file_that_is_no_program_is_told(um, tmp_path):
+    file = tmp_path / "umc"
+    file.write_bytes(b"\x00\x01")
+    file.chmod(0o755)
+    found = um("types", "examples/area.um", UMC=str(file))
+    assert (found.status, found.out) == (69, "")
+    assert found.err.startswith(f"um: {file}: ")
+
+
+def copied(folder: Path) -> Path:
+    """A checkout with nothing but `um`."""
+    shutil.copytree(HOME / "python/umc", folder / "python/umc", ignore=shutil.ignore_patterns("__pycache__"))
+    shutil.copy(UM, folder / "um")
+    return folder / "um"
+
+
+def test_the_program_is_the_one_on_the_path(tmp_path):
+    own = copied(tmp_path)
+    (tmp_path / "bin").mkdir()
+    (tmp_path / "bin/umc").symlink_to(PROGRAM)
+    environment = {**os.environ, "PATH": f"{tmp_path}/bin:{os.environ['PATH']}"}
+    del environment["UMC"]
+    done = subprocess.run([sys.executable, own, "types", HOME / "examples/area.um"], env=environment,
+                          capture_output=True, text=True)
+    assert (done.returncode, done.stdout, done.stderr) == (0, AREA, "")
+    environment["PATH"] = "/nowhere"
+    done = subprocess.run([sys.executable, own, "types", HOME / "examples/area.um"], env=environment,
+                          capture_output=True, text=True)
+    assert (done.returncode, done.stdout) == (69, "")
+    assert done.stderr == "um: there is no program umc on PATH; UMC=PROGRAM names one\n"
+
+
+def test_the_program_of_the_checkout_goes_before_the_path(tmp_path):
+    own = copied(tmp_path)
+    (tmp_path / "crates.txt").touch()
+    (tmp_path / "umc").write_text("#!/bin/sh\necho \"$@\" of the checkout\n")
+    (tmp_path / "umc").chmod(0o755)
+    environment = {**os.environ}
+    del environment["UMC"]
+    done = subprocess.run([sys.executable, own, "types", HOME / "examples/area.um"], env=environment,
+                          capture_output=True, text=True, cwd="/")
+    assert (done.returncode, done.stdout, done.stderr) == (0, "types of the checkout\n", "")
+
+
+def test_the_launcher_runs_by_itself_from_any_folder(tmp_path):
+    link = tmp_path / "link"
+    link.symlink_to(UM)
+    for launcher in (UM, link):
+        done = subprocess.run([launcher, "types", HOME / "examples/area.um"], capture_output=True, text=True,
+                              cwd=tmp_path)
+        assert (done.returncode, done.stdout, done.stderr) == (0, AREA, "")
+
+
+def test_what_the_program_says_on_standard_error_is_passed_on(um, script):
+    found = um("types", "examples/area.um", UMC=str(script("cat > /dev/null; echo notice >&2; echo k : num")))
+    assert (found.status, found.out, found.err) == (0, "k : num\n", "notice\n")
+
+
+def test_what_the_program_says_at_each_run_is_passed_on_once(um, script):
+    stub = script(f'echo "not proved yet" >&2; echo "$1" >&2; printf "no end" >&2; exec "{PROGRAM}" "$@"')
+    found = um("types", "examples/refusals/units.um", "examples/refusals/names.um", UMC=str(stub))
+    assert found.err.count("not proved yet\n") == found.err.count("no end") == found.err.count("types\n") == 1
+    assert found.err.count("explain\n") == 1
+
+
+def test_what_the_program_says_comes_at_once(script, tmp_path):
+    stub = script(f"echo progress >&2; while [ ! -e {tmp_path}/end ]; do sleep 0.05; done; cat > /dev/null")
+    um = subprocess.Popen([sys.executable, UM, "types", "examples/area.um"], cwd=HOME, stdout=subprocess.PIPE,
+                          stderr=subprocess.PIPE, env={**os.environ, "UMC": str(stub)})
+    assert um.stderr and um.stderr.readline() == b"progress\n"
+    (tmp_path / "end").touch()
+    assert um.wait(timeout=60) == 0
+
+
+def test_an_unknown_status_is_handed_on_and_told(um, script):
+    found = um("types", "examples/area.um", UMC=str(script("cat > /dev/null; exit 17")))
+    assert (found.status, found.err) == (17, "examples/area.um: error 17: the program had too little memory\n")
+    found = um("types", "examples/area.um", UMC=str(script("cat > /dev/null; exit 99")))
+    assert (found.status, found.err) == (99, "um: the program ended with status 99\n")
+
+
+def test_a_program_that_does_not_read_its_text_is_answered(um, program, script):
+    file = program("// " + "x" * 1000000)
+    found = um("types", file, UMC=str(script("echo 'error 1: usage'; exit 1")))
+    assert found.status == 1
+    assert found.err.splitlines()[0] == f"{file}: error 1: usage"
+
+
+# ---- signals
+
+@pytest.mark.parametrize("number", [signal.SIGINT, signal.SIGTERM, signal.SIGHUP, signal.SIGQUIT])
+@pytest.mark.parametrize("text", ["echo $$ > {0}/pid; exec sleep 60", "sleep 60 & echo $! > {0}/pid; wait",
+                                  "trap '' TERM; echo $$ > {0}/pid; while :; do sleep 1; done"])
+def test_a_signal_ends_both(script, tmp_path, number, text):
+    stub = script(text.format(tmp_path))
+    um = subprocess.Popen([sys.executable, UM, "run", "examples/area.um", "area", "1", "2"], cwd=HOME,
+                          stdout=subprocess.PIPE, stderr=subprocess.PIPE, env={**os.environ, "UMC": str(stub)})
+    process = wait_for_process(tmp_path / "pid")
+    um.send_signal(number)
+    out, err = um.communicate(timeout=60)
+    assert (um.returncode, out, err) == (-number, b"", b"")
+    assert not is_alive(process)
+
+
+def test_ctrl_c_on_a_terminal_ends_both(script, tmp_path):
+    stub = script(f"echo $$ > {tmp_path}/pid; exec sleep 60")
+    session, terminal = pty.fork()
+    if session == 0:
+        os.environ["UMC"] = str(stub)
+        os.execv(sys.executable, [sys.executable, str(UM), "types", str(HOME / "examples/area.um")])
+    process = wait_for_process(tmp_path / "pid")
+    os.write(terminal, b"\x03")
+    _, status = os.waitpid(session, 0)
+    assert os.WIFSIGNALED(status) and os.WTERMSIG(status) == signal.SIGINT
+    assert not is_alive(process)
+    os.close(terminal)
+
+
+def state(process: int) -> str:
+    return Path(f"/proc/{process}/stat").read_text().rpartition(")")[2].split()[0]
+
+
+def test_ctrl_z_stops_both(script, tmp_path):
+    stub = script(f"echo $$ > {tmp_path}/pid; while [ ! -e {tmp_path}/end ]; do :; done; cat > /dev/null")
+    um = subprocess.Popen([sys.executable, UM, "types", "examples/area.um"], cwd=HOME, stdout=subprocess.PIPE,
+                          env={**os.environ, "UMC": str(stub)}, process_group=0)
+    process = wait_for_process(tmp_path / "pid")
+    um.send_signal(signal.SIGTSTP)
+    wait_for(lambda: state(um.pid) == state(process) == "T")
+    um.send_signal(signal.SIGCONT)
+    wait_for(lambda: state(process) != "T")
+    (tmp_path / "end").touch()
+    assert um.wait(timeout=60) == 0
+
+
+def test_a_signal_ends_what_other_threads_ask(script, tmp_path):
+    stub = script(f"echo $$ > {tmp_path}/pid; exec sleep 60")
+    text = ("import sys, threading, time\nfrom pathlib import Path\n"
+            f"sys.path.insert(0, '{HOME}/python')\nfrom umc import cli, signals\nfrom umc.program import Program\n"
+            "def ask(args):\n"
+            f"    ask = Program(Path('{stub}')).ask\n"
+            "    threading.Thread(target=ask, args=(['types'], b''), daemon=True).start()\n"
+            "    time.sleep(60)\n"
+            "cli.dispatch = ask\ncli.main([])\n")
+    um = subprocess.Popen([sys.executable, "-c", text])
+    process = wait_for_process(tmp_path / "pid")
+    um.send_signal(signal.SIGTERM)
+    assert um.wait(timeout=60) == -signal.SIGTERM
+    assert not is_alive(process)
+
+
+def wait_for(condition) -> None:
+    for _ in range(3000):
+        if condition():
+            return
+        time.sleep(0.02)
+    raise AssertionError("it never came so far")
+
+
+def test_a_program_that_is_ended_by_a_signal_is_told(um, script):
+    stub = script("cat > /dev/null; kill -SEGV $$")
+    found = um("types", "examples/area.um", UMC=str(stub))
+    assert (found.status, found.out, found.err) == (139, "", f"um: {stub} was ended by SIGSEGV\n")
+
+
+def wait_for_process(file: Path) -> int:
+    for _ in range(3000):
+        if file.exists() and file.read_text().endswith("\n"):
+            return int(file.read_text())
+        time.sleep(0.02)
+    raise AssertionError("the program never began")
+
+
+def is_alive(process: int) -> bool:
+    """Whether a process still runs after a moment."""
+    for _ in range(50):
+        try:
+            state = Path(f"/proc/{process}/stat").read_text().rpartition(")")[2].split()[0]
+        except OSError:
+            return False
+        if state == "Z":        # ended, and nobody has asked yet how
+            return False
+        time.sleep(0.02)
+    return True
+
+
+# ---- limits
+
+ENDLESS = "\n".join(["let f (x: num) =", *(f"  let x{n} = [{p}; {p}] in" for n, p in enumerate(
+    ["x", *(f"x{n}" for n in range(39))])), "  x39"])
+
+
+def test_a_run_ends_at_the_limit_of_its_time(um, script):
+    began = time.monotonic()
+    found = um("run", "examples/area.um", "area", "1", "2", "--limit-time", "0.5", UMC=str(script("exec sleep 60")))
+    assert (found.status, found.out) == (124, "")
+    assert found.err == "um: the run took more than 0.5 s (--limit-time)\n"
+    assert time.monotonic() - began < 30
+
+
+def test_a_value_without_end_ends_at_a_limit(um, program):
+    found = um("run", program(ENDLESS), "f", "1", "--limit-memory", "200M", "--limit-time", "20")
+    assert (found.status, found.out) == (124, "")
+    assert found.err in ("um: the run held more than 200 MiB of memory (--limit-memory)\n",
+                         "um: the run took more than 20 s (--limit-time)\n")
+
+
+def test_a_run_ends_at_the_limit_of_its_answer(um, program):
+    file = program(ENDLESS.replace("  x39", "  x14"))
+    assert um("run", file, "f", "1", "--limit-output", "1M").status == 0
+    found = um("run", file, "f", "1", "--limit-output", "50K", "--json")
+    assert found.status == 124
+    assert found.objects == [{"status": 124, "kind": "limit", "file": None,
+                              "message": "the answer is longer than 50 KiB (--limit-output)"}]
+
+
+@pytest.mark.parametrize("option, value", [("--limit-time", "soon"), ("--limit-time", "-1"), ("--limit-memory", "4T"),
+                                           ("--limit-output", "")])
+def test_a_limit_that_is_none_is_refused(um, option, value):
+    found = um("run", "examples/area.um", "area", "1", "2", option, value)
+    assert (found.status, found.out) == (64, "")
+    assert "um: argument --limit-" in found.err or "expected one argument" in found.err
+
+
+# ---- output that can't be written
+
+def test_it_ends_quietly_when_its_output_is_closed(program):
+    file = program("".join(f"let f{n} (x: num<_>) = x\n" for n in range(2000)))
+    um = subprocess.Popen([sys.executable, UM, "types", *[file] * 8], cwd=HOME, stdout=subprocess.PIPE,
+                          stderr=subprocess.PIPE)
+    assert um.stdout and um.stderr
+    assert um.stdout.readline() == b"f0 : num<'a> -> num<'a>\n"
+    um.stdout.close()
+    assert um.stderr.read() == b""
+    assert um.wait(timeout=60) == -signal.SIGPIPE
+
+
+@pytest.mark.parametrize("words", [["types", "examples/area.um"], ["--help"], ["run", "--help"], ["--version"],
+                                   ["types", "--json", "examples/refusals/units.um"]])
+def test_a_full_disk_is_told(words):
+    with open("/dev/full", "wb") as full:
+        done = subprocess.run([sys.executable, UM, *words], cwd=HOME, stdout=full, stderr=subprocess.PIPE, text=True)
+    assert (done.returncode, done.stderr) == (16, "um: standard output: No space left on device\n")
+
+
+def test_closed_streams_are_no_crash():
+    def closed(redirection, *words):
+        return subprocess.run(["sh", "-c", f'exec "$0" "$@" {redirection}', sys.executable, UM, *words], cwd=HOME,
+                              capture_output=True, text=True)
+    done = closed(">&-", "types", "examples/area.um")
+    assert (done.returncode, done.stdout) == (16, "")
+    assert "Traceback" not in done.stderr and "standard output" in done.stderr
+    done = closed("2>&-", "types", "examples/refusals/units.um")
+    assert (done.returncode, done.stdout, done.stderr) == (9, "", "")
+    done = closed("<&-", "types", "-")
+    assert (done.returncode, done.stdout, done.stderr) == (66, "", "um: <stdin>: standard input is closed\n")
+    done = closed("<&-", "types", "examples/area.um")
+    assert (done.returncode, done.stdout, done.stderr) == (0, AREA, "")
+
+
+def test_an_output_file_that_can_not_be_written_is_told(um, tmp_path):
+    found = um("types", "examples/area.um", "-o", tmp_path / "none/types")
+    assert (found.status, found.err) == (73, f"um: {tmp_path}/none/types: No such file or directory\n")
+    found = um("types", "examples/area.um", "-o", "/dev/full")
+    assert (found.status, found.err) == (73, "um: /dev/full: No space left on device\n")
+    assert um("types", "examples/area.um", "-o", "/dev/null").status == 0
+
+
+# ---- files that can't be read
+
+@pytest.mark.parametrize("name, why", [
+    ("none.um", "No such file or directory"), (".", "Is a directory"), ("/proc/self/mem", "Input/output error"),
+    ("a" * 300, "File name too long")])
+def test_a_file_that_can_not_be_read_is_told(um, name, why):
+    found = um("types", name)
+    assert (found.status, found.out, found.err) == (66, "", f"um: {name}: {why}\n")
+
+
+@pytest.mark.parametrize("words", [
+    ["run", "examples", "f"], ["exec", "examples", "f"], ["run", "examples/area.um", "area", "@examples"],
+    ["conform", "examples/area.um", "examples"], ["types", "examples/area.um", "--with", "./examples"],
+    ["image", "examples", "-o", "/dev/null"]])
+def test_a_folder_is_told_wherever_a_file_is_named(um, words):
+    found = um(*words)
+    assert (found.status, found.out) == (66, "")
+    assert found.err in ("um: examples: Is a directory\n", "um: ./examples: Is a directory\n")
+
+
+@pytest.mark.skipif(os.geteuid() == 0, reason="root reads every file")
+def test_a_file_without_rights_is_told(um, program):
+    file = program("let k = 1")
+    file.chmod(0)
+    found = um("types", file)
+    assert (found.status, found.err) == (66, f"um: {file}: Permission denied\n")
+
+
+def test_a_files_name_may_be_any_bytes(um, tmp_path):
+    name = os.fsdecode(os.fsencode(tmp_path) + b"/a \xff\n.um")
+    Path(name).write_text("let k = x")
+    found = um("types", name)
+    assert found.status == 7
+    assert "error 7: unknown name" in found.err
+    (object_,) = um("types", "--json", name).objects
+    assert object_["file"] == name
+
+
+def test_a_pipe_is_a_file(um, tmp_path):
+    done = subprocess.run(["bash", "-c", f"'{sys.executable}' '{UM}' types <(cat examples/area.um)"], cwd=HOME,
+                          capture_output=True, text=True)
+    assert (done.returncode, done.stdout, done.stderr) == (0, AREA, "")
+
+
+# ---- words that the system doesn't take
+
+LONG = f"[{'1<m>; ' * 25000}2<m>]"
+
+
+@pytest.mark.needs("calls")
+def test_an_argument_of_any_length_is_taken(um, tmp_path):
+    (tmp_path / "list").write_text(LONG)
+    found = um("run", "examples/vehicle.um", "count", f"@{tmp_path}/list", timeout=300)
+    assert (found.status, found.out) == (0, "25001\n")
+    (tmp_path / "list").write_text(LONG.replace("2<m>", "2<q>"))
+    found = um("run", "examples/vehicle.um", "count", f"@{tmp_path}/list", timeout=300)
+    assert (found.status, found.out) == (11, "")
+    assert found.err.startswith(f"{tmp_path}/list:1:150004: error 11: argument 1, name\n")
+
+
+def test_a_long_argument_where_nothing_takes_it_is_told(um, tmp_path):
+    from conftest import lacks
+    (tmp_path / "list").write_text(LONG)
+    found = um("eval", "examples/vehicle.um", "count", f"@{tmp_path}/list")
+    assert (found.status, found.out) == (64, "")
+    assert found.err == "um: the words are longer than the system takes; um run takes arguments of any length\n"
+    if lacks("calls"):
+        found = um("run", "examples/vehicle.um", "count", f"@{tmp_path}/list")
+        assert (found.status, found.out) == (64, "")
+        assert "this umc has no command 'calls'" in found.err
+
+
+@pytest.mark.needs("calls")
+def test_an_argument_that_goes_by_calls_is_answered_as_by_run(um, tmp_path, program):
+    # The text has a line that calls would take for its end, and no line feed at its end.
+    text = "let k (x: num list) (y: num) =\n  y - 5\n---\n1 // last"
+    assert answer(["run", "9", "k", "[]", "7"], text) == (0, "1\n")
+    (tmp_path / "list").write_text(f"[ // comment\n{'1;' * 70000}\t2\r\n]")
+    assert um("run", program(text), "k", f"@{tmp_path}/list", "7", timeout=300).out == "1\n"
+    found = um("run", program("let k (x: num list) = (\n---"), "k", f"@{tmp_path}/list", timeout=300)
+    status, line = answer(["types"], "let k (x: num list) = (\n---")
+    assert found.status == status == 5
+    assert found.err.splitlines()[0].endswith(":2:4: error 5: syntax")
+
+
+@pytest.mark.needs("calls")
+def test_an_argument_may_hold_the_character_0(um, tmp_path):
+    (tmp_path / "zero").write_bytes(b"[1;\x002]")
+    found = um("run", "examples/vehicle.um", "mean", f"@{tmp_path}/zero")
+    assert (found.status, found.err.splitlines()[0]) == (11, f"{tmp_path}/zero:1:4: error 11: argument 1, text")

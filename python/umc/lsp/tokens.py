@@ -1,0 +1,94 @@
+"""A split of a text into tokens, comments among them. It never fails: what begins no token is a token of its own."""
+import re
+from enum import Enum
+from typing import NamedTuple
+
+WORDS = frozenset("let rec in if then else match with type true false not num bool list Measure pown".split())
+LETTERS = r"A-Za-z_\u0080-\U0010ffff"
+WIDE = r"\u0080-\U0010ffff"
+TOKEN = re.compile(rf"""(?P<space>[ \t\r\n]+)
+    |(?P<name>[A-Za-z_][A-Za-z0-9_]*(?![{WIDE}]))
+    |(?P<sign>\[<|<=|<>|->|::|\|\||&&|[][(){{}}<>=+\-*^;:,.|]|/(?!/))
+    |(?P<number>[0-9]+(?:[.r][0-9]+)?)
+    |(?P<comment>//[^\n]*)
+    |(?P<variable>'[A-Za-z_][A-Za-z0-9_]*(?![{WIDE}]))
+    |(?P<wide>'?[{LETTERS}][{LETTERS}0-9]*)
+    |(?P<bad>.)""", re.VERBOSE)
+
+
+class Kind(Enum):
+    """What a token is."""
+
+    NAME = "name"
+    VARIABLE = "variable"
+    NUMBER = "number"
+    WORD = "word"
+    HOLE = "hole"
+    SIGN = "sign"
+    COMMENT = "comment"
+    BAD = "bad"
+
+
+KINDS = {kind.value: kind for kind in Kind}
+
+
+class Token(NamedTuple):
+    """A token: what it is, its text, and the offsets at which it begins and ends."""
+
+    kind: Kind
+    text: str
+    start: int
+    end: int
+
+
+def split(text: str) -> list[Token]:
+    """The tokens of a text in order, with its comments."""
+    found: list[Token] = []
+    at: int | None = 1 if text.startswith("\ufeff") else 0
+    while at is not None:
+        at = _split_from(text, at, found)
+    return found
+
+
+def _split_from(text: str, at: int, found: list[Token]) -> int | None:
+    """Goes on at a place up to the first token that ends earlier than its characters beyond ASCII let it seem."""
+    take, kinds, words = found.append, KINDS, WORDS
+    for match in TOKEN.finditer(text, at):
+        kind, piece, start = match.lastgroup, match[0], match.start()
+        if kind == "space":
+            continue
+        if kind == "name":
+            kind = "word" if piece in words else "hole" if piece == "_" else "name"
+        elif kind == "comment":
+            piece = piece.rstrip("\r")
+        elif kind == "wide":
+            wide = _wide(piece, start)
+            take(wide)
+            if wide.end < match.end():
+                return wide.end
+            continue
+        take(Token(kinds[kind], piece, start, start + len(piece)))  # type: ignore[index]
+    return None
+
+
+def _wide(piece: str, start: int) -> Token:
+    """The token at the start of characters of which some are beyond ASCII."""
+    mark = piece.startswith("'")
+    length = mark + identifier(piece[mark:])
+    if length == mark:
+        return Token(Kind.BAD, piece[0], start, start + 1)
+    return Token(Kind.VARIABLE if mark else Kind.NAME, piece[:length], start, start + length)
+
+
+def identifier(text: str) -> int:
+    """How many characters of a text are a name at its start. Letters are those of Unicode Standard Annex 31."""
+    length = 0
+    while length < len(text) and (text[0] if length == 0 else "a" + text[length]).isidentifier():
+        length += 1
+    return length
+
+
+def only(text: str) -> Kind | None:
+    """The kind of the one token that a text is; None for a text that is another number of tokens, or has spaces."""
+    tokens = split(text)
+    return tokens[0].kind if len(tokens) == 1 and tokens[0].text == text else None
