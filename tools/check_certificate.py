@@ -1,151 +1,89 @@
 #!/usr/bin/env python3
-"""Checks certificates by sums of integers: tools/check_certificate.py EQUATIONS CERTIFICATES
+"""Checks certificates from a program's text alone: tools/check_certificate.py [--equations] PROGRAM.um CERTIFICATES
 
-CERTIFICATES is what `umc prove` prints. It doesn't print the equations that they certify, so EQUATIONS gives these, for each
-function in order, with slots as the variables 'a 'b .. 'z 'a1 ..:
+CERTIFICATES is what `umc prove` prints of the program, or - for the standard input:
 
-    NAME SLOTS PARAMETERS         how many unknown units, and how many of them, the first, are declared unit parameters
-      row R: UNIT                 each equation, numbered from 0: the unit is to be 1
-      type T: UNIT = UNIT         each unit of the function's type, over slots, and the scheme's unit there
+  ./umc prove < examples/mean.um | tools/check_certificate.py examples/mean.um -
 
-The k-th unit parameter as a base unit of its own is $k. Ends with 0 where every certificate is right.
+The text is read by the modules of reference/. Each function's equations are formed from it, with the schemes that were
+certified of the functions before it, and each certificate is checked by sums of integers. What they show is printed,
+the lines that `umc types` answers: the scheme of each function, and last a refusal if there is one.
+
+--equations prints in their place the equations of each function, over its slots as variables ('a is slot 0):
+
+  NAME SLOTS PARAMETERS           how many slots, and how many of them, the first, are unit parameters
+    type: TYPE -> ..              the types of its parameters and its result
+    row R at L:C: UNIT            each equation, counted from 0, and its place: the unit is 1
+
+The status is 0 if the schemes of all functions, or those before a refusal and the refusal, follow from the equations.
+Otherwise it is 1, and the first fault is told with its line. The status is 2 if a file can't be read, or the output
+not written.
 """
+from __future__ import annotations
+
 import argparse
-import re
+import os
 import sys
+from pathlib import Path
 
-from repository import quietly
+sys.path[:0] = [str(Path(__file__).resolve().parent.parent / "reference"), str(Path(__file__).resolve().parent)]
 
+from certifying.judging import Question, check, program_of_text, shown_equations  # noqa: E402
+from certifying.reading import Fault  # noqa: E402
+from repository import quietly  # noqa: E402
 
-def number(variable):
-    """The number of a variable's name."""
-    return ord(variable[1]) - ord("a") + 26 * int(variable[2:] or 0)
-
-
-def unit(text):
-    """A unit as a map from atoms to powers other than 0: variables are numbers, base units are names."""
-    out = {}
-    above, _, below = ("" if text == "1" else text).partition("/")
-    for part, sign in ((above, 1), (below, -1)):
-        for factor in part.split():
-            name, _, power = factor.partition("^")
-            add(out, number(name) if name[0] == "'" else name, sign * int(power or 1))
-    return out
+MOST_BYTES = 2**28
 
 
-def add(out, atom, power):
-    out[atom] = out.get(atom, 0) + power
-    if not out[atom]:
-        del out[atom]
+def bytes_of(path: str) -> bytes:
+    """The bytes of a file, or of the standard input."""
+    with sys.stdin.buffer if path == "-" else open(path, "rb") as file:
+        data = file.read(MOST_BYTES + 1)
+    if len(data) > MOST_BYTES:
+        raise Fault(0, f"{path} has more than {MOST_BYTES:,} bytes")
+    return data
 
 
-def product(powers):
-    """The product of units to powers."""
-    out = {}
-    for u, k in powers:
-        for atom, power in u.items():
-            add(out, atom, power * k)
-    return out
-
-
-def put(u, units):
-    """The unit with units put for its variables; base units stay."""
-    return product((units[a] if isinstance(a, int) else {a: 1}, k) for a, k in u.items())
-
-
-def blocks(text):
-    """Each line that begins without spaces, with the lines behind it as (label, number, rest)."""
-    out = []
-    for line in text.splitlines():
-        if line.startswith("  "):
-            label, rest = line[2:].split(": ", 1)
-            name, _, k = label.partition(" ")
-            out[-1][1].append((name, int(k or 0), rest))
-        elif line:
-            out.append((line, []))
-    return out
-
-
-def listed(lines, label):
-    """The units of all lines with this label, which are numbered from 0."""
-    found = [(k, rest) for name, k, rest in lines if name == label]
-    expect([k for k, _ in found] == list(range(len(found))), "numbers of " + label)
-    return [unit(rest) for _, rest in found]
-
-
-def parts(text):
-    return [(int(r), int(c)) for r, c in (part.split("*") for part in text.split())]
-
-
-def expect(condition, what):
-    if not condition:
-        raise ValueError(what)
-
-
-def combined(rows, named, below):
-    expect(all(0 <= r < below for r, _ in named), "a part names no row")
-    return product((rows[r], c) for r, c in named)
-
-
-def variables(u):
-    return [a for a in u if isinstance(a, int)]
-
-
-def check_yes(slots, parameters, rows, shown, count, divisor, lines):
-    expect({name for name, _, _ in lines} <= {"slot", "back", "rows", "rigid"}, "a line")
-    solution, back, rigid = (listed(lines, label) for label in ("slot", "back", "rigid"))
-    named = {k: parts(rest) for name, k, rest in lines if name == "rows"}
-    expect(len(solution) == slots and len(back) == count and set(named) <= set(range(slots)), "numbers of slots")
-    expect(all(not put(row, solution) for row in rows), "Y1: a row isn't 1")
-    expect(all(k < count for u in solution for k in variables(u)), "Y2: a variable")
-    expect(all(put(u, solution) == v for u, v in shown), "Y2: a type")
-    seen = list(dict.fromkeys(k for _, v in shown for k in sorted(variables(v))))
-    expect(seen == list(range(len(seen))), "Y2: the scheme's variables")
-    expect(divisor > 0, "Y3: the divisor")
-    for j in range(slots):
-        returned = product([(put(solution[j], back), 1), ({j: 1}, -1)])
-        expect(all(abs(k) < 2 ** 63 for k in returned.values()), "Y3: range")
-        expect(product([(returned, divisor)]) == combined(rows, named.get(j, []), len(rows)), "Y3: slot %d" % j)
-    expect(len(rigid) == (slots if parameters else 0), "Y4: how many")
-    expect(all(rigid[k] == {"$%d" % k: 1} for k in range(parameters)), "Y4: a unit parameter")
-    expect(not parameters or all(not put(row, rigid) for row in rows), "Y4: a row isn't 1")
-
-
-def check_no(slots, fixed, rows, last, modulus, lines):
-    expect(modulus >= 2 and 0 < last <= len(rows), "modulus or rows")
-    expect([name for name, _, _ in lines] == ["rows"], "lines of a No")
-    own = [{"$%d" % k: 1} if k < fixed else {k: 1} for k in range(slots)]
-    left = combined([put(row, own) for row in rows], parts(lines[0][2]), last)
-    expect(all(k % modulus == 0 for a, k in left.items() if isinstance(a, int)), "a slot's power")
-    expect(any(k % modulus for a, k in left.items() if not isinstance(a, int)), "no base unit is left")
-
-
-def check(equations, certificates):
-    asked, proofs = blocks(equations), blocks(certificates)
-    expect(len(proofs) == len(asked) or (proofs and " yes " not in proofs[-1][0]), "how many certificates")
-    for (head, given), (line, lines) in zip(asked, proofs):
-        name, slots, parameters = head.split()
-        slots, parameters, rows = int(slots), int(parameters), listed(given, "row")
-        shown = [tuple(map(unit, rest.split(" = "))) for label, _, rest in given if label == "type"]
-        yes = re.fullmatch(r"(\S+) yes (\d+) (-?\d+)", line)
-        no = re.fullmatch(r"(\S+) (no|not general) (\d+) (-?\d+)", line)
-        expect((yes or no) and (yes or no)[1] == name, "heading: " + line)
-        if yes:
-            check_yes(slots, parameters, rows, shown, int(yes[2]), int(yes[3]), lines)
-        else:
-            check_no(slots, parameters if no[2] == "not general" else 0, rows, int(no[3]), int(no[4]), lines)
-        print(name, "is right")
-
-
-def main():
-    reader = argparse.ArgumentParser(description=__doc__, formatter_class=argparse.RawDescriptionHelpFormatter)
-    reader.add_argument("equations", metavar="EQUATIONS")
-    reader.add_argument("certificates", metavar="CERTIFICATES")
-    options = reader.parse_args()
+def text_of(data: bytes) -> str:
+    """The text of certificates."""
     try:
-        check(*(open(path, encoding="utf-8").read() for path in (options.equations, options.certificates)))
-    except (ValueError, LookupError, OSError) as error:
-        sys.exit("refused: %s" % error)
+        return data.decode()
+    except UnicodeDecodeError as error:
+        raise Fault(data[:error.start].count(b"\n") + 1, "the bytes aren't UTF-8") from None
+
+
+def main() -> int:
+    """Checks the files that are named."""
+    parser = argparse.ArgumentParser(description=__doc__, formatter_class=argparse.RawDescriptionHelpFormatter)
+    parser.add_argument("--equations", action="store_true", help="print the equations of each function")
+    parser.add_argument("program", metavar="PROGRAM.um")
+    parser.add_argument("certificates", metavar="CERTIFICATES")
+    args = parser.parse_args()
+    if args.program == args.certificates == "-":
+        parser.error("only one of the two can be the standard input")
+    sys.setrecursionlimit(10**6)
+
+    def hear(question: Question) -> None:
+        """Prints the equations of a function."""
+        if args.equations:
+            print(shown_equations(question), end="")
+
+    try:
+        program, certificates = bytes_of(args.program), bytes_of(args.certificates)
+        lines = check(program_of_text(program), text_of(certificates), hear)
+        if not args.equations:
+            print("".join(line + "\n" for line in lines), end="")
+        sys.stdout.flush()
+    except BrokenPipeError:
+        raise
+    except OSError as error:
+        print(f"{parser.prog}: {error.filename or 'the output'}: {error.strerror}", file=sys.stderr)
+        os._exit(2)
+    except Fault as fault:
+        sys.stdout.flush()
+        print(f"refused: {fault}", file=sys.stderr)
+        return 1
+    return 0
 
 
 if __name__ == "__main__":

@@ -1,0 +1,1 @@
+"""Certificates, checked from a program's text alone."""
