@@ -4,6 +4,7 @@ The tests ask the program that UMC names, otherwise the proved program of the ch
 """
 import json
 import os
+import signal
 import subprocess
 import sys
 from collections.abc import Callable, Sequence
@@ -22,7 +23,9 @@ PROGRAM = Path(os.environ.get("UMC") or BUILT).absolute()
 
 
 def pytest_configure(config: pytest.Config) -> None:
-    """The tests are nothing without a program."""
+    """The tests are nothing without a program, and signals reach what they start: a job in the background ignores some."""
+    signal.signal(signal.SIGINT, signal.default_int_handler)
+    signal.signal(signal.SIGHUP, signal.SIG_DFL)
     config.addinivalue_line("markers", "needs(command): a test that needs a command which not every program has")
     if not os.access(PROGRAM, os.X_OK):
         pytest.exit(f"there is no program {PROGRAM}: UMC=PROGRAM names one", returncode=2)
