@@ -26,7 +26,7 @@ use Rattle.um_syntax.proofs.Runs.{steps-append, reaches_now, reaches_on}
 use Rattle.um_syntax.proofs.Closing.{scan_at}
 use Rattle.um_syntax.proofs.Tables.{IsMark, single_symbol-mark, double_symbol-mark, double_symbol-first, double_symbol-feed}
 use Rattle.um_syntax.proofs.Reading.{begin_digit, begin_quote, begin_symbol}
-use Rattle.um_syntax.proofs.Feeds.{and_parts}
+use Rattle.um_syntax.proofs.Bools.{and_parts}
 use Rattle.um_syntax.proofs.Kept.{kept_letters, kept_ascii, kept_line, kept_boundary, kept_chars, kept_more, plain_byte, plain, name_kept, steps_kept, steps_name, IsLine-both, chars_cut, chars_on}
 
 -- nothing is taken
@@ -67,7 +67,7 @@ early s u k start end c untaken alone closed place =
     ∙ ap (λ b. cond b (Err (BadChar u.at)) (begun (pushed u k start end) c (s.at + len_utf8 c))) alone
     ∙ ap (λ n. begun (pushed u k start end) c (n + len_utf8 c)) (sym place)
 
--- the byte behind a name, and behind a number
+-- the byte after a name, and after a number
 not_false : (b : Bool) → not b ≡ true → b ≡ false
 not_false true e = absurd (false≢true e)
 not_false false e = refl
@@ -352,7 +352,7 @@ scans_blank s [] free utf8 some blank = absurd (omega (arith, some))
 scans_blank s (b ∷ bs) free utf8 some blank =
     scans_kept s s.pending (b ∷ bs) 1 refl (kept_none s.pending (b ∷ []) (inl free)) utf8 (omega (arith, some)) (subst (λ p. AllKept p (b ∷ [])) (sym free) (blank, tt))
 
--- ---- one behind another
+-- ---- one after another
 
 pub scans_more : (old mid new : Scan) (text : List ℕ) (n m : ℕ) → IsUtf8 text → Scans old text n mid → Scans mid (drop n text) m new → Scans old text (n + m) new
 scans_more old mid new text n m utf8 one two =
@@ -368,7 +368,7 @@ scans_more old mid new text n m utf8 one two =
       reaches = subst (λ l. Reaches old l new (chars (drop (n + m) text))) on (subst (λ l. Reaches old (front ++ behind) new (chars l)) (drop-drop m n text) both);
     }
 
--- ---- the token that was put behind the others
+-- ---- the token that was put after the others
 
 pub put_scans : {E : Type 0} (r : Result ℕ E) (at : ℕ) (tokens : List Token) (letters : List ℕ) (p : Pending) (new t : Scan) (text : List ℕ) (n : ℕ) → p ≡ pending.Free → letters ≡ []
     → OnOk r (new ≡ t) → IfOk r (λ m. m ≡ n) → Scans (free_at at tokens) text n t → IfOk r (λ m. Scans (scan_at at tokens letters p) text m new)

@@ -31,7 +31,7 @@ use Rattle.um_syntax.proofs.Tables.{keyword_of-none, keyword_encoded, keyword_pa
 use Rattle.um_syntax.proofs.Texts.{NoHead, nothing_at, identifier_head, hole_from, no_hole_from, word_from, no_word_from, identifier_read}
 use Rattle.um_syntax.proofs.Meaning.{Means, next_token, faulty_here, token_here}
 
--- what has been read behind a number's last digit
+-- what has been read after a number's last digit
 abbrev pub tail_of : Part → List ℕ
 tail_of part.Whole = []
 tail_of part.Point = 46 ∷ []
@@ -47,7 +47,7 @@ FitsPart part.Decimal (Decimal w q) = Unit {0}
 FitsPart part.Ratio (Ratio a b) = Unit {0}
 FitsPart _ _ = ⊥
 
--- What has begun, with the letters at hand and the place behind it, stands for a text from a place on.
+-- What has begun, with the letters at hand and the place after it, stands for a text from a place on.
 abbrev pub Pends : Pending → List ℕ → ℕ → ℕ → List ℕ → Type 0
 Pends pending.Start letters at start text = ⊥
 Pends pending.Free letters at start text = (letters ≡ []) × (text ≡ []) × (at ≡ start)
@@ -421,7 +421,7 @@ close_symbol before start at first more place begun untaken = by_sign (single_sy
     by_sign (Some k) e = rw e (sign k e)
     by_sign None e = rw e (ampersand e)
 
--- a letter directly behind a number that keeps its rule
+-- a letter directly after a number that keeps its rule
 none_refused : (s : Scan) (start e : ℕ) (p : Part) (power : Bool) (new : Scan) → number_pushed s start e p power None ≡ Ok new → ⊥
 none_refused s start e p true new same = cc
 none_refused s start e p false new same = cc

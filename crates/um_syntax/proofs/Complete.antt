@@ -35,7 +35,7 @@ and_false : (a b : Bool) → (a ≡ true → b ≡ false) → (a && b) ≡ false
 and_false true b h = h refl
 and_false false b h = refl
 
--- what has begun ends before what follows, and the machine goes on behind it
+-- what has begun ends before what follows, and the machine goes on after it
 pub closed_run : (before tokens : List Token) (letters : List ℕ) (at : ℕ) (p : Pending) (more : List ℕ) → close (scan_at at before letters p) p ≡ Ok (free tokens at) → begins (takes p) more ≡ false
     → (ends_in_digit p ≡ true → begins is_xid_continue more ≡ false) → run (scan_at at before letters p) more ≡ run (free tokens at) more
 closed_run before tokens letters at p [] ok untaken alone = ap tokens_of ok
@@ -160,7 +160,7 @@ letter_kind k c same =
     let plain : letters_kind (p.last ∷ []) ≡ kind.Name (p.last ∷ []) = rw (p.last_no_word, p.last_no_hole) refl in
     ap (λ x. letters_kind (encodes (x ∷ []))) same ∙ ap letters_kind (last_encoded p.last p.last_letter) ∙ plain ∙ ap (λ x. kind.Name x) (sym p.last_dropped)
 
--- the state behind a variable and a letter
+-- the state after a variable and a letter
 abbrev behind_letter : List Token → ℕ → List ℕ → List ℕ → Kind → Kind → ℕ → Result (List Token) LexStop
 behind_letter before at name more v n e =
     run (free ((before ++ token_from before v at (at + size_of (39 ∷ name)) ∷ []) ++ token_from (before ++ token_from before v at (at + size_of (39 ∷ name)) ∷ []) n (at + size_of (39 ∷ name)) e ∷ []) e) more
@@ -274,7 +274,7 @@ number_answer before at n more = run (digits_at before at (at + size_of (numeral
 abbrev number_behind : List Token → ℕ → Numeral → Kind → List ℕ → Result (List Token) LexStop
 number_behind before at n which more = run (free (before ++ token_from before which at (at + size_of (numeral_text n)) ∷ []) (at + size_of (numeral_text n))) more
 
--- a point or an r behind digits is taken at first
+-- a point or an r after digits is taken at first
 mark_taken : (before : List Token) (at c : ℕ) (ds cs : List ℕ) (p : Part) → step (digits_at before at (at + size_of ds) part.Whole (Whole ds)) c ≡ Ok (number_state before at (at + size_of ds + 1) (at + size_of ds) p (Whole ds))
     → number_answer before at (Whole ds) (c ∷ cs) ≡ run (number_state before at (at + size_of ds + 1) (at + size_of ds) p (Whole ds)) cs
 mark_taken before at c ds cs p e = run_on (digits_at before at (at + size_of ds) part.Whole (Whole ds)) (number_state before at (at + size_of ds + 1) (at + size_of ds) p (Whole ds)) c cs e
@@ -308,7 +308,7 @@ number_token before at n more which is ends alone kind_is = number_run before at
     by_end : number_end n more → number_answer before at n more ≡ number_behind before at n which more
     by_end u = ⊎_elim closed_here (λ m. ⊎_elim (λ w. point w.0 w.1 w.2 w.3 w.4) (λ w. absurd (letter w.1 w.3)) m) u
 
--- a letter directly behind a number that keeps its rule
+-- a letter directly after a number that keeps its rule
 over_letter : (before : List Token) (at : ℕ) (ds cs : List ℕ) (which : Kind) → IsNumeral (Whole ds) → begins is_ascii_digit cs ≡ false → kind_of (is_power_place before) (Number (Whole ds)) ≡ Some which
     → number_answer before at (Whole ds) (114 ∷ cs) ≡ Err (BadChar (at + size_of ds))
 over_letter before at ds cs which is no_digit kind_is =

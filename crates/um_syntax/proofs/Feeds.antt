@@ -30,24 +30,17 @@ use Rattle.unicode_ident.specs.Ident.{is_xid_continue}
 use Rattle.um_syntax.proofs.Tables.{double_symbol-feed}
 use Rattle.um_syntax.proofs.Reading.{ascii_no_name}
 use Rattle.um_syntax.proofs.Whole.{scanned_complete, unique_tokens}
+use Rattle.um_syntax.proofs.Bools.{and_true, and_parts}
 
 -- no characters, no tokens
 pub none_counted : (tokens : List Token) → HasTokens [] tokens → 0 ≡ length tokens
 none_counted tokens h = ap length (unique_tokens [] [] tokens (closed nothing) h)
 
-pub and_true : (a b : Bool) → a ≡ true → b ≡ true → (a && b) ≡ true
-and_true true b e f = f
-and_true false b e f = absurd (false≢true e)
-
-pub and_parts : (a b : Bool) → (a && b) ≡ true → (a ≡ true) × (b ≡ true)
-and_parts true b e = (refl, e)
-and_parts false b e = absurd (false≢true e)
-
 pub scalars-snoc : (cs : List ℕ) (c : ℕ) → scalars cs ≡ true → scalar c ≡ true → scalars (cs ++ c ∷ []) ≡ true
 scalars-snoc [] c e f = and_true (scalar c) true f refl
 scalars-snoc (d ∷ ds) c e f = let p = and_parts (scalar d) (scalars ds) e in and_true (scalar d) (scalars (ds ++ c ∷ [])) p.0 (scalars-snoc ds c p.1 f)
 
--- the machine after one more character behind a fault
+-- the machine after one more character after a fault
 steps-snoc_stopped : (cs : List ℕ) (c : ℕ) (stop : LexStop) → steps (Ok scan_start) cs ≡ Err stop → steps (Ok scan_start) (cs ++ c ∷ []) ≡ Err stop
 steps-snoc_stopped cs c stop e = steps-append (Ok scan_start) cs (c ∷ []) ∙ ap (λ r. steps r (c ∷ [])) e
 
@@ -187,7 +180,7 @@ line_feed_free s new e = by_pending s.pending refl
     by_pending (pending.Number b n part.Ratio f) is = line_feed_step s new (pending.Number b n part.Ratio f) is refl e
     by_pending (pending.Symbol b first) is = line_feed_step s new (pending.Symbol b first) is (or_both (is_some (double_symbol first 10)) (eqb first 47 && eqb 10 47) (no_pair first) (no_slash first)) e
 
--- the tokens behind a line feed
+-- the tokens after a line feed
 free_answer : (s : Scan) → s.pending ≡ pending.Free → ended (Ok s) ≡ Ok s.tokens
 free_answer s is = ap (λ p. tokens_of (close s p)) is
 
@@ -200,11 +193,11 @@ counts_feed f scan new n cs c more none h e feed count =
     let same : tokens ≡ new.tokens = cc in
     count ∙ ap length (sym same))
 
--- no characters were read behind these
+-- no characters were read after these
 pub none_read : (l : Lexer) (cs more : List ℕ) → HasRead l cs more → HasRead l (cs ++ chars []) more
 none_read l cs more h = subst (λ x. HasRead l x more) (sym (ap (λ x. cs ++ x) chars-nil ∙ append_nil cs)) h
 
--- what stands behind the characters
+-- what stands after the characters
 NoChar-more : (tail : List ℕ) (b : ℕ) → NoChar tail → NoChar (tail ++ b ∷ [])
 NoChar-more tail b h after = subst NoWhole (sym (append_assoc tail (b ∷ []) after)) (h (b ∷ after))
 
@@ -263,7 +256,7 @@ pub both_ok : {T E P Q R : Type 0} (r : Result T E) → OnOk r P → OnOk r Q �
 both_ok (Ok x) p q f = f p q
 both_ok (Err e) p q f = tt
 
--- Bytes that begin with a text begin with its characters, where no whole character stands behind those that were read.
+-- Bytes that begin with a text begin with its characters, where no whole character stands after those that were read.
 pub text_front : (ps cs rest tail : List ℕ) → scalars ps ≡ true → NoWhole tail → encodes ps ++ rest ≡ encodes cs ++ tail → (qs : List ℕ) × (cs ≡ ps ++ qs) × (rest ≡ encodes qs ++ tail)
 text_front [] cs rest tail s none e = (cs, refl, e)
 text_front (p ∷ ps) [] rest tail s none e = absurd (none p (encodes ps ++ rest) (and_parts (scalar p) (scalars ps) s).0 (sym e ∙ append_assoc (encode p) (encodes ps) rest))

@@ -19,6 +19,7 @@ use Rattle.um_syntax.specs.Feeding.{IsTextAnswer, is_readable, IsReadable, text_
 use Rattle.um_syntax.proofs.Places.{size_of-encodes}
 use Rattle.um_syntax.proofs.Whole.{tokens_from, fault_from}
 use Rattle.um_syntax.proofs.Feeds.{text_front, behind_is, behind_no_whole}
+use Rattle.um_syntax.proofs.Bools.{and_parts}
 
 valid_up_to : (cs tail : List ℕ) → scalars cs ≡ true → NoWhole tail → 0 < length tail → IsValidUpTo (encodes cs ++ tail) (length (encodes cs))
 valid_up_to cs tail s none some = record {
@@ -90,10 +91,6 @@ refusal_answer bytes cs tail partial valid scan (lex.BadChar at) whole s empty r
 refusal_answer bytes cs tail partial valid scan (lex.NumberRange at) whole s empty read h e = text_ended bytes cs (lex.NumberRange at) (whole_bytes bytes cs tail whole (h ∙ empty)) s (ap ended read ∙ e)
 refusal_answer bytes cs tail partial valid scan (lex.PowerText at) whole s empty read h e = text_ended bytes cs (lex.PowerText at) (whole_bytes bytes cs tail whole (h ∙ empty)) s (ap ended read ∙ e)
 refusal_answer bytes cs tail partial valid scan lex.NoMemory whole s empty read h e = tt
-
-and_parts : (a b : Bool) → (a && b) ≡ true → (a ≡ true) × (b ≡ true)
-and_parts true b e = (refl, e)
-and_parts false b e = absurd (false≢true e)
 
 second_false : (a b : Bool) → (a && b) ≡ false → a ≡ true → b ≡ false
 second_false true b e t = e

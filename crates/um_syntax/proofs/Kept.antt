@@ -18,7 +18,7 @@ use Rattle.um_syntax.specs.Machine.{Scan, scan_start, keeps, AllKept, begins_nam
 use Rattle.um_syntax.specs.Feeding.{CountsLines, HasScanned}
 use Rattle.um_syntax.proofs.Runs.{reaches_on}
 use Rattle.um_syntax.proofs.Closing.{scan_at}
-use Rattle.um_syntax.proofs.Feeds.{and_true, and_parts}
+use Rattle.um_syntax.proofs.Bools.{and_true, and_parts}
 
 -- a byte that keeps something is ASCII, and no line feed
 keeps_ascii : (p : Pending) (b : ℕ) → keeps p b ≡ true → (b < 128) × (eqb b 10 ≡ false)
@@ -162,7 +162,7 @@ pub first_kept : (bs : List ℕ) → begins_name bs ≡ true → (1 ≤ length b
 first_kept [] h = absurd (false≢true h)
 first_kept (b ∷ bs) h = (omega arith, (begins_keeps b h, tt))
 
--- the byte behind a name
+-- the byte after a name
 pub name_ends : (bs : List ℕ) (n d : ℕ) → n < length bs → get_or bs n d < 128 → keeps (pending.Identifier 0) (get_or bs n d) ≡ false → ends_name (drop n bs) ≡ true
 name_ends [] n d within low other = absurd (omega (arith, within))
 name_ends (b ∷ bs) zero d within low other = and_true (ltb b 128) (not (keeps (pending.Identifier 0) b)) (lt-ltb b 128 low) (ap not other)
@@ -202,7 +202,7 @@ first_char text rest c utf8 e =
     let front = subst (λ n. take n text ≡ encode c) (length-encode c) (ap (take (length (encode c))) e ∙ take-append_seam (encode c) rest) in
     (boundary, chars_past_char (take (len_utf8 c) text) [] c (IsUtf8-take text (len_utf8 c) utf8 boundary) (front ∙ sym (append-nil (encode c))) ∙ ap (λ l. c ∷ l) chars-nil)
 
--- the characters of a text up to a place behind another
+-- the characters of a text up to a place after another
 pub chars_on : (text : List ℕ) (at n : ℕ) → IsUtf8 text → IsCharBoundary text at → chars (take at text) ++ chars (take n (drop at text)) ≡ chars (take (at + n) text)
 chars_on text at n utf8 boundary =
     sym (chars-append (take at text) (take n (drop at text)) (IsUtf8-take text at utf8 boundary))

@@ -16,7 +16,7 @@ use Rattle.um_syntax.proofs.Reading.{digit_no_name, ascii_no_name}
 mark_no_name : (c : ℕ) → IsMark c → starts_name c ≡ false
 mark_no_name c m = ascii_no_name c m.1 m.2
 
--- a letter behind an identifier
+-- a letter after an identifier
 identifier_letter : (text more : List ℕ) (c : ℕ) → 0 < length text → IsIdentifier (text ++ c ∷ more) → is_xid_continue c ≡ true
 identifier_letter [] more c some is = absurd (omega arith)
 identifier_letter (d ∷ ds) more c some is = go ds is.1

@@ -8,7 +8,7 @@ use Rattle.um_syntax.specs.Lexeme.{Lexeme, text_of, IsLexeme, Ends, IsAlone, kin
 use Rattle.um_syntax.specs.Lexing.{size_of, is_glued, is_power_place, IsNext, Lexes, Faulty, Refuses}
 use Rattle.um_syntax.proofs.Places.{size_of-append}
 
--- Behind the tokens before, which end at `at`, the characters have the answer: all tokens, or a refusal.
+-- After the tokens before, which end at `at`, the characters have the answer: all tokens, or a refusal.
 abbrev pub Means : List Token → ℕ → List ℕ → Result (List Token) LexStop → Type 0
 Means before at chars (Ok all) = (tokens : List Token) × (all ≡ before ++ tokens) × Lexes before at chars tokens
 Means before at chars (Err stop) = (tokens : List Token) × Refuses before at chars tokens stop

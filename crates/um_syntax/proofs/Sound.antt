@@ -22,6 +22,7 @@ use Rattle.um_syntax.proofs.Digits.{figures_of}
 use Rattle.um_syntax.proofs.Meaning.{Means}
 use Rattle.um_syntax.proofs.Closing.{tail_of, Pends, CloseMeans, scan_at, close_identifier, close_quote, close_variable, close_number, close_symbol, number_tail}
 use Rattle.um_syntax.proofs.Taking.{TakeMeans, take_sound, BeginMeans, begin_sound}
+use Rattle.um_syntax.proofs.Bools.{and_parts}
 
 abbrev pub is_comment : Pending → Bool
 is_comment pending.Comment = true
@@ -137,15 +138,11 @@ tail_sound before letters at start text more new (pending.Quote b) d h = absurd 
 tail_sound before letters at start text more new (pending.Variable b last) d h = absurd (false≢true d)
 tail_sound before letters at start text more new (pending.Symbol b first) d h = absurd (false≢true d)
 
-both : (a b : Bool) → (a && b) ≡ true → (a ≡ true) × (b ≡ true)
-both true b e = (refl, e)
-both false b e = absurd (false≢true e)
-
 second_false : (a b : Bool) → (a && b) ≡ false → a ≡ true → b ≡ false
 second_false true b e t = e
 second_false false b e t = absurd (false≢true t)
 
--- what begins behind what has ended
+-- what begins after what has ended
 begin_behind : (before : List Token) (start at next : ℕ) (text : List ℕ) (c : ℕ) (more : List ℕ) (p : Pending) (tokens : List Token) (r : Result Scan LexStop) → (ends_in_digit p ≡ true → is_xid_continue c ≡ false)
     → CloseMeans before start text at (c ∷ more) p (Ok (scan_at at tokens [] pending.Free)) → BeginMeans tokens at c more r → StepMeans before start text c more r
 begin_behind before start at next text c more p tokens (Ok s) alone m b = (b.0, b.1, b.2, λ answer n. m.1 answer alone (b.3 answer n))
@@ -161,7 +158,7 @@ followed_sound before letters at start next text p c more h after u (Ok s) ok m 
     closed_means = (refl, m.1)
 
     letter : (ends_in_digit p && is_xid_continue c) ≡ true → Means before start (text ++ c ∷ more) (Err (BadChar at))
-    letter e = let t = both (ends_in_digit p) (is_xid_continue c) e in tail_sound before letters at start text (c ∷ more) s p t.0 h u t.1 ok
+    letter e = let t = and_parts (ends_in_digit p) (is_xid_continue c) e in tail_sound before letters at start text (c ∷ more) s p t.0 h u t.1 ok
 
     by_tail : (b : Bool) → (ends_in_digit p && is_xid_continue c) ≡ b → StepMeans before start text c more (cond (ends_in_digit p && is_xid_continue c) (Err (BadChar at)) (begun (scan_at at s.tokens [] pending.Free) c next))
     by_tail true e = rw e (letter e)

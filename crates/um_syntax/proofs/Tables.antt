@@ -17,6 +17,7 @@ use Rattle.um_syntax.specs.declared.vocabulary.Symbol.TheVariants as symbol
 use Rattle.um_syntax.specs.Vocabulary.{keyword_text, symbol_text}
 use Rattle.um_syntax.specs.Lexeme.{starts_name, AllContinue, IsIdentifier, IsWord}
 use Rattle.um_syntax.specs.Machine.{keywords, found_keyword, keyword_of, found, found_pair, single_symbols, single_symbol, double_symbols, double_symbol}
+use Rattle.um_syntax.proofs.Bools.{and_parts}
 
 -- a symbol is of one character or of two
 abbrev pub SymbolForm : Symbol → Type 0
@@ -77,13 +78,9 @@ abbrev EachPair : (ℕ → ℕ → Symbol → Type 0) → List (ℕ × ℕ × Sy
 EachPair P [] = Unit {0}
 EachPair P (x ∷ xs) = P x.0 x.1 x.2 × EachPair P xs
 
-both_true : (a b : Bool) → (a && b) ≡ true → (a ≡ true) × (b ≡ true)
-both_true true b e = (refl, e)
-both_true false b e = absurd (false≢true e)
-
 pair_entry : (P : ℕ → ℕ → Symbol → Type 0) (a b x y : ℕ) (k n : Symbol) (rest : Option Symbol) (t : Bool) → (eqb a x && eqb b y) ≡ t → P x y n → (rest ≡ Some k → P a b k) → cond t (Some n) rest ≡ Some k → P a b k
 pair_entry P a b x y k n rest true t here there e =
-    let both = both_true (eqb a x) (eqb b y) t in
+    let both = and_parts (eqb a x) (eqb b y) t in
     let p : x ≡ a = sym (eqb-true a x both.0) in
     let q : y ≡ b = sym (eqb-true b y both.1) in
     let r : n ≡ k = cc in
@@ -182,15 +179,15 @@ letter_starts_name c e = or_true (eqb c 95) (is_xid_start c) (letter_starts c e)
 
 letters_continue : (cs : List ℕ) → are_letters cs ≡ true → AllContinue cs
 letters_continue [] e = tt
-letters_continue (c ∷ cs) e = let p = both_true (is_ascii_alphabetic c) (are_letters cs) e in (is_xid_start-is_xid_continue c (letter_starts c p.0), letters_continue cs p.1)
+letters_continue (c ∷ cs) e = let p = and_parts (is_ascii_alphabetic c) (are_letters cs) e in (is_xid_start-is_xid_continue c (letter_starts c p.0), letters_continue cs p.1)
 
 letters_identifier : (c : ℕ) (cs : List ℕ) → are_letters (c ∷ cs) ≡ true → IsIdentifier (c ∷ cs)
-letters_identifier c cs e = let p = both_true (is_ascii_alphabetic c) (are_letters cs) e in (letter_starts_name c p.0, letters_continue cs p.1)
+letters_identifier c cs e = let p = and_parts (is_ascii_alphabetic c) (are_letters cs) e in (letter_starts_name c p.0, letters_continue cs p.1)
 
 pub letters_encoded : (cs : List ℕ) → are_letters cs ≡ true → encodes cs ≡ cs
 letters_encoded [] e = refl
 letters_encoded (c ∷ cs) e =
-    let p = both_true (is_ascii_alphabetic c) (are_letters cs) e in
+    let p = and_parts (is_ascii_alphabetic c) (are_letters cs) e in
     ap (λ x. x ++ encodes cs) (encode_ascii c (alphabetic_small c p.0)) ∙ ap (λ x. c ∷ x) (letters_encoded cs p.1)
 
 pub keyword_letters : (k : Keyword) → are_letters (keyword_text k) ≡ true

@@ -25,6 +25,7 @@ use Rattle.um_syntax.proofs.Tables.{double_symbol-first, double_symbol-text, sym
 use Rattle.um_syntax.proofs.Texts.{nothing_at}
 use Rattle.um_syntax.proofs.Meaning.{Means, skip, next_token, faulty_here, token_here}
 use Rattle.um_syntax.proofs.Closing.{tail_of, FitsPart, Pends, scan_at, size_of-snoc, append_nil}
+use Rattle.um_syntax.proofs.Bools.{and_parts}
 
 -- The state after a character means what the state before it meant.
 abbrev pub TakeMeans : List Token → ℕ → List ℕ → ℕ → List ℕ → Scan → Type 0
@@ -121,7 +122,7 @@ or_left_false : (a b : Bool) → (a || b) ≡ true → a ≡ false → b ≡ tru
 or_left_false true b e f = absurd (false≢true (sym f))
 or_left_false false b e f = e
 
--- a point or an r behind digits
+-- a point or an r after digits
 mark_taken : (start at next e : ℕ) (n : Numeral) (ds : List ℕ) (c : ℕ) → n ≡ Whole ds → IsDigits ds → at ≡ start + size_of (ds ++ []) → e ≡ start + size_of ds → next ≡ at + len_utf8 c → (eqb c 46 || eqb c 114) ≡ true
     → NumberPends (pending.Number start e (cond (eqb c 46) part.Point part.Over) (figures_of (Whole ds))) next start ((ds ++ []) ++ c ∷ [])
 mark_taken start at next e n ds c same digits place end after mark = by_mark (eqb c 46) refl
@@ -170,10 +171,6 @@ take_symbol : (before : List Token) (start at next first : ℕ) (c : ℕ) (more 
     → TakeMeans before start (first ∷ []) c more (symbol_taken (scan_at at before [] (pending.Symbol start first)) start next (double_symbol first c))
 take_symbol before start at next first c more place after taking = by_sign (double_symbol first c) refl
   where
-    both : (a b : Bool) → (a && b) ≡ true → (a ≡ true) × (b ≡ true)
-    both true b e = (refl, e)
-    both false b e = absurd (false≢true e)
-
     there : next ≡ start + size_of (first ∷ c ∷ [])
     there = place_on start at next (first ∷ []) c place after
 
@@ -191,7 +188,7 @@ take_symbol before start at next first c more place after taking = by_sign (doub
 
     slashes : double_symbol first c ≡ None → TakeMeans before start (first ∷ []) c more (symbol_taken (scan_at at before [] (pending.Symbol start first)) start next None)
     slashes e =
-        let is = both (eqb first 47) (eqb c 47) (sym (ap (λ o. is_some o || (eqb first 47 && eqb c 47)) e) ∙ taking) in
+        let is = and_parts (eqb first 47) (eqb c 47) (sym (ap (λ o. is_some o || (eqb first 47 && eqb c 47)) e) ∙ taking) in
         let one = eqb-true first 47 is.0 in
         let two = eqb-true c 47 is.1 in
         goes_on before start next (first ∷ []) c more [] pending.Comment (refl, there, ([], ap (λ x. x ∷ c ∷ []) one ∙ ap (λ x. 47 ∷ x ∷ []) two, tt))

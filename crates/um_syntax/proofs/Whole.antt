@@ -17,7 +17,7 @@ use Rattle.um_syntax.proofs.Reading.{run, free}
 use Rattle.um_syntax.proofs.Complete.{complete}
 use Rattle.um_syntax.proofs.Refused.{refused}
 
--- the machine starts behind a byte order mark
+-- the machine starts after a byte order mark
 pub scanned-body : (chars : List ℕ) → scanned chars ≡ run (free [] (body_place chars)) (body chars)
 scanned-body [] = refl
 scanned-body (c ∷ cs) = by_mark (eqb c 65279) refl

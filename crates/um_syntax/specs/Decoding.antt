@@ -4,10 +4,11 @@ use Rattle.std.specs.Char.{encode_utf8, IsScalar}
 use Rattle.um_syntax.specs.declared.decode.Decoded.{Decoded}
 use Rattle.um_syntax.specs.declared.decode.Decoded.TheVariants as decoded
 
--- how many bytes a character has that begins with this byte; 0 where none does
+-- how many bytes a character has that begins with this byte; 0 if none does
 abbrev pub char_len : ℕ → ℕ
 char_len b =
-    cond (nat_lt b 128) 1 (cond (nat_lt b 192) 0 (cond (nat_lt b 224) 2 (cond (nat_lt b 240) 3 (cond (nat_lt b 248) 4 0))))
+    cond (nat_lt b 128) 1
+    (cond (nat_lt b 192) 0 (cond (nat_lt b 224) 2 (cond (nat_lt b 240) 3 (cond (nat_lt b 248) 4 0))))
 
 -- no whole character stands at the front of the bytes
 abbrev pub NoWhole : List ℕ → Type 0

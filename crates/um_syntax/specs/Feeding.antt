@@ -1,5 +1,7 @@
--- What a lexer that is fed in pieces answers, by the definitions of tokens, and what it stands for, by the scanner's states.
-use Rattle.std.specs.Prelude.{◌≡◌, ℕ, ◌⊎◌, Bool, true, false, List, [], ◌∷◌, ◌++◌, length, take, Option, None, Some, Result, Ok, Err}
+-- What a lexer that is fed in pieces answers, by the definitions of tokens, and what it stands for, by the scanner's
+-- states.
+use Rattle.std.specs.Prelude.{◌≡◌, ℕ, ◌⊎◌, Bool, true, false, List, [], ◌∷◌, ◌++◌, length, take, Option, None, Some}
+use Rattle.std.specs.Prelude.{Result, Ok, Err}
 use Rattle.std.specs.Str.{chars, IsUtf8, IsValidUpTo, encode_utf8_all, all_scalars}
 use Rattle.um_syntax.specs.declared.token.Token.{Token}
 use Rattle.um_syntax.specs.declared.token.LexStop.{LexStop}
@@ -17,11 +19,11 @@ use Rattle.um_syntax.specs.Decoding.{NoChar}
 abbrev pub EndsLine : List ℕ → Type 0
 EndsLine xs = (xs ≡ []) ⊎ ((before : List ℕ) × (xs ≡ before ++ 10 ∷ []))
 
--- Of the longest prefix of the bytes that is empty or ends with a line feed: where it has tokens, they are so many.
+-- Of the longest prefix of the bytes that is empty or ends with a line feed: if it has tokens, they are so many.
 abbrev pub CountsTokens : List ℕ → ℕ → Type 0
 CountsTokens bytes count =
-    (prefix rest : List ℕ) (tokens : List Token) → bytes ≡ prefix ++ rest → EndsLine prefix → IsLine rest → IsUtf8 prefix
-    → HasTokens (chars prefix) tokens → count ≡ length tokens
+    (prefix rest : List ℕ) (tokens : List Token) → bytes ≡ prefix ++ rest → EndsLine prefix → IsLine rest
+    → IsUtf8 prefix → HasTokens (chars prefix) tokens → count ≡ length tokens
 
 -- What the text of the bytes has: tokens, or its leftmost fault; bytes that aren't UTF-8 have none.
 abbrev pub IsTextAnswer : List ℕ → Result (List Token) TextStop → Type 0
@@ -59,7 +61,7 @@ text_stop (lex.NumberRange at) = text.NumberRange at
 text_stop (lex.PowerText at) = text.PowerText at
 text_stop lex.NoMemory = text.NoMemory
 
--- what the machine has answered to the characters, where others follow
+-- what the machine has answered to the characters, if others follow
 abbrev pub HasScanned : Option TextStop → Scan → List ℕ → List ℕ → Type 0
 HasScanned None scan cs more = Reaches scan_start cs scan more
 HasScanned (Some (text.Utf8 at)) scan cs more = Unit {0}
@@ -74,14 +76,14 @@ CountsLines count cs =
     (prefix line : List ℕ) × (cs ≡ prefix ++ line) × EndsLine prefix × IsLine line
     × ((tokens : List Token) → HasTokens prefix tokens → count ≡ length tokens)
 
--- the lexer has read these characters, where others follow
+-- the lexer has read these characters, if others follow
 pub record HasRead (lexer : Lexer) (cs more : List ℕ) : Type 0 where
   pub scalars : all_scalars cs ≡ true
   pub place : lexer.valid ≡ size_of cs
   pub scanned : HasScanned lexer.fault (scan_of lexer.scanner) cs more
   pub counted : CountsLines lexer.counted cs
 
--- What stands behind the characters. A spent lexer stands for nothing.
+-- What stands after the characters. A spent lexer stands for nothing.
 abbrev pub HasBehind : Option TextStop → ℕ → List ℕ → List ℕ → Type 0
 HasBehind (Some (text.Utf8 at)) valid partial tail = (at ≡ valid) × NoChar tail
 HasBehind None valid partial tail = tail ≡ partial

@@ -25,7 +25,7 @@ abbrev pub TokensExcludeFault : Type 0
 TokensExcludeFault =
     (chars : List ℕ) (tokens : List Token) (stop : LexStop) → HasTokens chars tokens → HasFault chars stop → ⊥
 
--- Where a token's text may end, no longer token stands at its place.
+-- If a token's text may end, no longer token stands at its place.
 abbrev pub NoTokenIsLonger : Type 0
 NoTokenIsLonger =
     (lexeme other : Lexeme) (c : ℕ) (extra rest : List ℕ) → IsLexeme lexeme → IsLexeme other

@@ -1,5 +1,6 @@
 -- The texts of tokens, by the kinds of the language's table (this project's own; names by Unicode Standard Annex 31).
-use Rattle.std.specs.Prelude.{◌≡◌, ◌≢◌, ℕ, Bool, true, false, ◌==◌, ◌||◌, ◌&&◌, ◌⊎◌, List, [], ◌∷◌, ◌++◌, Option, Some, option_map}
+use Rattle.std.specs.Prelude.{◌≡◌, ◌≢◌, ℕ, Bool, true, false, ◌==◌, ◌||◌, ◌&&◌, ◌⊎◌, List, [], ◌∷◌, ◌++◌, Option, Some}
+use Rattle.std.specs.Prelude.{option_map}
 use Rattle.std.specs.Char.{is_ascii_digit}
 use Rattle.std.specs.Str.{encode_utf8_all, bytes_eq}
 use Rattle.unicode_ident.specs.Ident.{is_xid_start, is_xid_continue}
@@ -71,7 +72,7 @@ NumeralEnds (Whole digits) more = (begins is_ascii_digit more ≡ false) × (beg
 NumeralEnds (Decimal whole part) more = begins is_ascii_digit more ≡ false
 NumeralEnds (Ratio above below) more = begins is_ascii_digit more ≡ false
 
--- A variable goes on while letters follow. Only where the longest one would be a reserved word, its last letter is
+-- A variable goes on while letters follow. Only if the longest one would be a reserved word, its last letter is
 -- left out.
 abbrev pub LeavesLetter : List ℕ → List ℕ → Type 0
 LeavesLetter name [] = ⊥
@@ -102,13 +103,14 @@ is_whole (Whole digits) = true
 is_whole (Decimal whole part) = false
 is_whole (Ratio above below) = false
 
--- The kind of a token, where `power` says that a number stands there as a power. There is none for a number that
+-- The kind of a token. `power` says that a number stands there as a power. There is none for a number that
 -- breaks its rule.
 abbrev pub kind_of : Bool → Lexeme → Option Kind
 kind_of power (Name text) = Some (kind.Name (encode_utf8_all text))
 kind_of power (Var name) = Some (kind.Var (encode_utf8_all name))
 kind_of power (Number numeral) =
-    option_map (λ v. kind.Number v (is_whole numeral) (bytes_eq (numeral_text numeral) (49 ∷ []))) (number_value power numeral)
+    option_map (λ v. kind.Number v (is_whole numeral) (bytes_eq (numeral_text numeral) (49 ∷ [])))
+    (number_value power numeral)
 kind_of power (Word k) = Some (kind.Word k)
 kind_of power Hole = Some kind.Hole
 kind_of power (Sign k) = Some (kind.Sign k)

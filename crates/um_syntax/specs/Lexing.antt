@@ -1,6 +1,7 @@
 -- The tokens of a text, or its leftmost refusal (this project's own).
 -- A text is its list of characters. Places are byte offsets in UTF-8.
-use Rattle.std.specs.Prelude.{◌≡◌, ◌≢◌, ℕ, ◌+◌, ◌-◌, Bool, true, false, cond, ◌==◌, ◌||◌, ◌&&◌, ◌⊎◌, List, [], ◌∷◌, ◌++◌, length, slice_get, Option, None, Some}
+use Rattle.std.specs.Prelude.{◌≡◌, ◌≢◌, ℕ, ◌+◌, ◌-◌, Bool, true, false, cond, ◌==◌, ◌||◌, ◌&&◌, ◌⊎◌, List, [], ◌∷◌}
+use Rattle.std.specs.Prelude.{◌++◌, length, slice_get, Option, None, Some}
 use Rattle.std.specs.Char.{len_utf8}
 use Rattle.unicode_ident.specs.Ident.{is_xid_continue}
 use Rattle.um_syntax.specs.declared.token.Kind.{Kind}
@@ -44,13 +45,13 @@ abbrev pub is_minus : Option Token → Bool
 is_minus None = false
 is_minus (Some token) = is_minus_kind token.kind
 
--- A number behind these tokens is a power: the last is `^`, or the last two are `^` and `-`.
+-- A number after these tokens is a power: the last is `^`, or the last two are `^` and `-`.
 abbrev pub is_power_place : List Token → Bool
 is_power_place before =
     is_caret (slice_get before (length before - 1))
     || (is_minus (slice_get before (length before - 1)) && is_caret (slice_get before (length before - 2)))
 
--- Behind the tokens before, which end at `at`, the next token of the characters is this one, and `more` follows it.
+-- After the tokens before, which end at `at`, the next token of the characters is this one, and `more` follows it.
 pub record IsNext (before : List Token) (at : ℕ) (chars : List ℕ) (token : Token) (more : List ℕ) : Type 0 where
   pub gap : List ℕ
   pub lexeme : Lexeme
@@ -64,7 +65,7 @@ pub record IsNext (before : List Token) (at : ℕ) (chars : List ℕ) (token : T
   pub end : token.end ≡ token.start + size_of (text_of lexeme)
   pub glued : token.glued ≡ is_glued before token.start
 
--- Behind the tokens before, which end at `at`, the tokens of the characters are these.
+-- After the tokens before, which end at `at`, the tokens of the characters are these.
 abbrev pub Lexes : List Token → ℕ → List ℕ → List Token → Type 0
 Lexes before at chars [] = IsLastGap chars
 Lexes before at chars (token ∷ tokens) =
@@ -98,14 +99,14 @@ Faulty before at chars (PowerText place) =
     × ((numeral : Numeral) × (more : List ℕ) × IsNumberAt chars numeral more × (kind_of true (Number numeral) ≡ None))
 Faulty before at chars NoMemory = ⊥
 
--- Behind the tokens before, these tokens stand, and then the characters have a fault.
+-- After the tokens before, these tokens stand, and then the characters have a fault.
 abbrev pub Refuses : List Token → ℕ → List ℕ → List Token → LexStop → Type 0
 Refuses before at chars [] stop =
     (gap rest : List ℕ) × (chars ≡ gap ++ rest) × IsGap gap × Faulty before (at + size_of gap) rest stop
 Refuses before at chars (token ∷ tokens) stop =
     (more : List ℕ) × IsNext before at chars token more × Refuses (before ++ token ∷ []) token.end more tokens stop
 
--- The characters behind a byte order mark, U+FEFF, that a text may begin with, and the place where they begin.
+-- The characters after a byte order mark, U+FEFF, that a text may begin with, and the place where they begin.
 abbrev pub body : List ℕ → List ℕ
 body [] = []
 body (c ∷ cs) = cond (c == 65279) cs (c ∷ cs)

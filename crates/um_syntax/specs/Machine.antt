@@ -1,6 +1,8 @@
 -- The machine that reads a text character by character. The definitions of tokens and refusals don't rest on it; that
 -- it gives them is proved.
-use Rattle.std.specs.Prelude.{◌≡◌, ℕ, ◌+◌, ◌≤◌, ◌-◌, ◌*◌, ◌^◌, Bool, true, false, not, cond, ◌==◌, ◌||◌, ◌&&◌, nat_lt, nat_le, List, [], ◌∷◌, ◌++◌, length, take, drop, pos, Option, None, Some, is_some, option_map, Result, Ok, Err}
+use Rattle.std.specs.Prelude.{◌≡◌, ℕ, ◌+◌, ◌≤◌, ◌-◌, ◌*◌, ◌^◌, Bool, true, false, not, cond, ◌==◌, ◌||◌, ◌&&◌, nat_lt}
+use Rattle.std.specs.Prelude.{nat_le, List, [], ◌∷◌, ◌++◌, length, take, drop, pos, Option, None, Some, is_some}
+use Rattle.std.specs.Prelude.{option_map, Result, Ok, Err}
 use Rattle.std.specs.Coded.{×_prop, Unit-prop, le_prop}
 use Rattle.std.specs.Char.{is_ascii_digit, is_ascii_alphabetic, is_ascii_alphanumeric, len_utf8, encode_utf8}
 use Rattle.std.specs.Str.{bytes_eq}
@@ -84,7 +86,7 @@ double_symbols =
 abbrev pub double_symbol : ℕ → ℕ → Option Symbol
 double_symbol a b = found_pair a b double_symbols
 
--- the symbol that two characters begin with, and how many characters it has; none where they begin a comment
+-- the symbol that two characters begin with, and how many characters it has; none if they begin a comment
 abbrev pub chosen_symbol : Option Symbol → Bool → Option Symbol → Option (Symbol × ℕ)
 chosen_symbol (Some k) slashes one = Some (k, 2)
 chosen_symbol None true one = None
@@ -132,7 +134,7 @@ part_after_digit part.Decimal = part.Decimal
 part_after_digit part.Over = part.Ratio
 part_after_digit part.Ratio = part.Ratio
 
--- a number's text so far is digits alone, whatever has been read behind it
+-- a number's text so far is digits alone, whatever has been read after it
 abbrev pub is_whole_part : Part → Bool
 is_whole_part part.Whole = true
 is_whole_part part.Point = true
@@ -174,7 +176,7 @@ letters_kind letters = word_kind letters (keyword_of letters)
 abbrev pub identifier_pushed : Scan → ℕ → Scan
 identifier_pushed s start = pushed s (letters_kind s.letters) start s.at
 
--- a variable's token; where the letters are a word, the last of them is a name by itself
+-- a variable's token; if the letters are a word, the last of them is a name by itself
 abbrev pub variable_pushed : Scan → ℕ → ℕ → Scan
 variable_pushed s start last =
     cond (is_some (keyword_of s.letters))
@@ -275,7 +277,7 @@ abbrev pub symbol_taken : Scan → ℕ → ℕ → Option Symbol → Scan
 symbol_taken s start next (Some k) = pushed (at_state s next s.letters pending.Free) (kind.Sign k) start next
 symbol_taken s start next None = at_state s next s.letters pending.Comment
 
--- the state with that character, where `next` is the place behind it
+-- the state with that character; `next` is the place after it
 abbrev pub taken : Scan → Pending → ℕ → ℕ → Scan
 taken s pending.Start c next = at_state s next s.letters pending.Free
 taken s pending.Free c next = at_state s next s.letters pending.Free
@@ -287,12 +289,13 @@ taken s (pending.Variable start last) c next =
 taken s (pending.Number start end p f) c next = at_state s next s.letters (number_taken start end p f c next)
 taken s (pending.Symbol start first) c next = symbol_taken s start next (double_symbol first c)
 
--- the state after the first character of something, where nothing has begun
+-- the state after the first character of something, if nothing has begun
 abbrev pub begun : Scan → ℕ → ℕ → Result Scan LexStop
 begun s c next =
     cond (is_space c) (Ok (at_state s next s.letters pending.Free))
     (cond (starts_name c) (Ok (at_state s next (s.letters ++ encode_utf8 c) (pending.Identifier s.at)))
-    (cond (is_ascii_digit c) (Ok (at_state s next s.letters (pending.Number s.at next part.Whole (first_figures (c - 48)))))
+    (cond (is_ascii_digit c)
+    (Ok (at_state s next s.letters (pending.Number s.at next part.Whole (first_figures (c - 48)))))
     (cond (c == 39) (Ok (at_state s next s.letters (pending.Quote s.at)))
     (cond (is_some (single_symbol c) || c == 38) (Ok (at_state s next s.letters (pending.Symbol s.at c)))
     (Err (BadChar s.at))))))
@@ -322,7 +325,7 @@ steps r [] = r
 steps (Ok s) (c ∷ cs) = steps (step s c) cs
 steps (Err stop) (c ∷ cs) = Err stop
 
--- the bytes are digits, with a point or an r among them, that are read as a number's text where nothing has begun
+-- the bytes are digits, with a point or an r among them, that are read as a number's text if nothing has begun
 abbrev pub IsNumberRun : List ℕ → ℕ → Part → Figures → Type 0
 IsNumberRun bs end p f =
     (at : ℕ) (tokens : List Token)

@@ -1,6 +1,7 @@
 -- The texts of numbers and their values: digits in decimal notation (Knuth, Seminumerical Algorithms, 4.4), with a
 -- point or over other digits (this project's own).
-use Rattle.std.specs.Prelude.{◌≡◌, ℕ, ◌+◌, ◌-◌, ◌*◌, ◌^◌, Bool, true, false, cond, nat_le, List, [], ◌∷◌, ◌++◌, length, pos, Option, None}
+use Rattle.std.specs.Prelude.{◌≡◌, ℕ, ◌+◌, ◌-◌, ◌*◌, ◌^◌, Bool, true, false, cond, nat_le, List, [], ◌∷◌, ◌++◌, length}
+use Rattle.std.specs.Prelude.{pos, Option, None}
 use Rattle.std.specs.Char.{is_ascii_digit}
 use Rattle.um_frac.specs.declared.number.Frac.{Frac}
 use Rattle.um_frac.specs.Fraction.{reduced}
@@ -14,7 +15,7 @@ abbrev pub IsDigits : List ℕ → Type 0
 IsDigits [] = ⊥
 IsDigits (d ∷ ds) = (is_ascii_digit d ≡ true) × AreDigits ds
 
--- the number that digits write, behind a number that stands before them; 48 is the digit 0
+-- the number that digits write, after a number that stands before them; 48 is the digit 0
 abbrev pub value_after : ℕ → List ℕ → ℕ
 value_after n [] = n
 value_after n (d ∷ ds) = value_after (10 * n + (d - 48)) ds
@@ -65,7 +66,7 @@ power_value (Whole digits) = cond (nat_le (value_of digits) 2147483647) (reduced
 power_value (Decimal whole part) = None
 power_value (Ratio above below) = None
 
--- the value of a number text, as a power or not; none where it breaks the rule
+-- the value of a number text, as a power or not; none if it breaks the rule
 abbrev pub number_value : Bool → Numeral → Option Frac
 number_value true n = power_value n
 number_value false n = ordinary_value n

@@ -1,5 +1,6 @@
 //! A lexer that is fed the bytes of a text in pieces.
-ghost use Rattle.std.specs.Prelude.{◌≡◌, ◌+◌, ◌&&◌, nat_lt, ◌<◌, ◌≤◌, List, ℕ, ◌++◌, ◌∷◌, [], length, take, drop, slice_index, OnOk, OnErr, IfOk, IsErr};
+ghost use Rattle.std.specs.Prelude.{◌≡◌, ◌+◌, ◌&&◌, nat_lt, ◌<◌, ◌≤◌, List, ℕ, ◌++◌, ◌∷◌, [], length, take, drop};
+ghost use Rattle.std.specs.Prelude.{slice_index, OnOk, OnErr, IfOk, IsErr};
 ghost use Rattle.std.specs.Char.{len_utf8};
 ghost use Rattle.std.specs.Str.{chars, IsCharBoundary};
 ghost use Rattle.um_syntax.specs.Decoding.{char_len};
@@ -13,16 +14,16 @@ use std::str;
 
 /// A lexer that is fed the bytes of a text in pieces, cut anywhere.
 ///
-/// It keeps the tokens read so far and no text. After want of memory it answers `NoMemory` to every call.
+/// It keeps the tokens read so far, and no text. After want of memory it answers `NoMemory` to every call.
 #[derive(Drop)]
 pub struct Lexer {
     scanner: Scanner,
     // The bytes of a character that isn't whole yet: the first `held` of these.
     partial: [u8; 4],
     held: usize,
-    // Where the whole characters end.
+    // The place where the whole characters end.
     valid: u32,
-    // The fault that was met. Behind a bad character the bytes are still read, since they may not be UTF-8.
+    // The fault that was met. After a bad character the bytes are still read, since they may not be UTF-8.
     fault: Option<TextStop>,
     // The number of tokens up to the last line feed.
     counted: usize,
@@ -37,7 +38,8 @@ pub struct Lexer {
 }
 
 impl Lexer {
-    ghost use Rattle.um_syntax.specs.Feeding.{Stands, CountsTokens, IsTextAnswer, IsSpent, is_readable, IsReadable, HasRead, fed_of, text_stop};
+    ghost use Rattle.um_syntax.specs.Feeding.{Stands, CountsTokens, IsTextAnswer, IsSpent, is_readable, IsReadable};
+    ghost use Rattle.um_syntax.specs.Feeding.{HasRead, fed_of, text_stop};
     ghost use Rattle.um_syntax.specs.declared.token.TextStop.TheVariants as text_stop_of;
 
     /// A lexer that was fed nothing. Takes no memory.
@@ -56,14 +58,15 @@ impl Lexer {
         }
     }
 
-    /// Takes a piece of the text behind what was fed, and answers how many tokens were read up to the last line feed.
+    /// Takes a piece of the text after what was fed, and answers how many tokens were read up to the last line feed.
     ///
-    /// These are the tokens of the text fed so far up to there, if it is UTF-8 and has no fault that far; else nothing
-    /// is said of the number.
+    /// These are the tokens of the text fed so far, up to that line feed, if it is UTF-8 and has no fault that far;
+    /// otherwise nothing is known of the number.
     pub fn feed(&mut self, piece: &[u8]) -> Result<usize, NoMemory>
         requires { fed_of self.old + length piece.now ≤ 1048576 }
         ensures stands { OnOk result ((bytes : List ℕ) → Stands self.old bytes → Stands self.new (bytes ++ piece.now)) }
-        ensures tokens { IfOk result (λ n. (bytes : List ℕ) → Stands self.old bytes → CountsTokens (bytes ++ piece.now) n) }
+        ensures tokens { IfOk result
+            (λ n. (bytes : List ℕ) → Stands self.old bytes → CountsTokens (bytes ++ piece.now) n) }
         ensures fed { OnOk result (fed_of self.new ≡ fed_of self.old + length piece.now) }
         ensures spent { OnErr result (IsSpent self.new) }
         ensures stays_spent { IsSpent self.old → IsErr result }
@@ -84,7 +87,7 @@ impl Lexer {
     ///
     /// # Errors
     ///
-    /// `Utf8` where the bytes aren't UTF-8, at the length of their longest prefix that is; else the refusal of `lex`.
+    /// `Utf8` if the bytes aren't UTF-8, at the length of their longest prefix that is; otherwise the refusal of `lex`.
     pub fn finish(self) -> Result<Tokens, TextStop>
         ensures answer { (bytes : List ℕ) → Stands self bytes → IsTextAnswer bytes result }
         ensures spent { IsSpent self → result ≡ Err text_stop_of.NoMemory }
@@ -108,15 +111,15 @@ impl Lexer {
         Lexer::is_readable(self.fault) && self.held > 0
     }
 
-    // Takes bytes behind those that were fed: what ends a character that has begun, and then the others.
+    // Takes bytes after those that were fed: what ends a character that has begun, and then the others.
     fn take_piece(&mut self, piece: &[u8]) -> Result<(), AllocError>
         requires { self.old.fed + length piece.now ≤ 1048576 }
         ensures stands { OnOk result ((bytes : List ℕ) → Stands self.old bytes → Stands self.new (bytes ++ piece.now)) }
         ensures fed { OnOk result (self.new.fed ≡ self.old.fed + length piece.now) }
     {
-        let missing = self.missing();
-        if missing < piece.len() {
-            let (end, rest) = piece.split_at(missing);
+        let remaining = self.remaining();
+        if remaining < piece.len() {
+            let (end, rest) = piece.split_at(remaining);
             self.take_bytes(end)?;
             self.take_chars(rest)
         } else {
@@ -124,8 +127,8 @@ impl Lexer {
         }
     }
 
-    // How many bytes are missing of a character that has begun.
-    fn missing(&self) -> usize {
+    // How many bytes of a character that has begun are still to come.
+    fn remaining(&self) -> usize {
         if self.held > 0 {
             char_len(self.partial[0]).saturating_sub(self.held)
         } else {
@@ -133,7 +136,7 @@ impl Lexer {
         }
     }
 
-    // Takes bytes behind those that were fed: the characters at their front at once, and what is left one by one.
+    // Takes bytes after those that were fed: the characters at their front at once, and what is left one by one.
     fn take_chars(&mut self, piece: &[u8]) -> Result<(), AllocError>
         requires { self.old.fed + length piece.now ≤ 1048576 }
         ensures stands { OnOk result ((bytes : List ℕ) → Stands self.old bytes → Stands self.new (bytes ++ piece.now)) }
@@ -148,7 +151,7 @@ impl Lexer {
         }
     }
 
-    // Takes bytes behind those that were fed, where so many of them are characters.
+    // Takes bytes after those that were fed, if so many of them are characters.
     fn take_parts(&mut self, piece: &[u8], valid: usize) -> Result<(), AllocError>
         requires room { self.old.fed + length piece.now ≤ 1048576 }
         requires readable { IsReadable self.old.fault }
@@ -162,7 +165,7 @@ impl Lexer {
         self.take_bytes(rest)
     }
 
-    // Takes bytes that are characters behind those that were fed.
+    // Takes bytes that are characters after those that were fed.
     fn take_front(&mut self, front: &[u8]) -> Result<(), AllocError>
         requires room { self.old.fed + length front.now ≤ 1048576 }
         requires readable { IsReadable self.old.fault }
@@ -176,7 +179,7 @@ impl Lexer {
         }
     }
 
-    // Takes the characters of a text behind those that were read.
+    // Takes the characters of a text after those that were read.
     fn take_text(&mut self, text: &str) -> Result<(), AllocError>
         requires room { self.old.fed + length text.now ≤ 1048576 }
         requires readable { IsReadable self.old.fault }
@@ -193,7 +196,7 @@ impl Lexer {
         Ok(())
     }
 
-    // Takes what stands at the front of a text behind what was read: what is taken at once, or else one character.
+    // Takes what stands at the front of a text after what was read: what is taken at once, or one character.
     // Answers how many bytes these are.
     fn take_next(&mut self, text: &str) -> Result<usize, AllocError>
         requires some { 0 < length text.now }
@@ -222,8 +225,8 @@ impl Lexer {
         }
     }
 
-    // Takes what stands at the front of a text at once, and answers how many bytes these are. None are behind a fault,
-    // and where a line feed stands.
+    // Takes what stands at the front of a text at once, and answers how many bytes these are. None are after a fault,
+    // and at a line feed.
     fn take_at_once(&mut self, text: &str) -> Result<usize, AllocError>
         requires some { 0 < length text.now }
         requires room { self.old.valid + length text.now ≤ self.old.fed }
@@ -244,7 +247,7 @@ impl Lexer {
         Ok(len)
     }
 
-    // Takes bytes behind those that were fed, one by one.
+    // Takes bytes after those that were fed, one by one.
     fn take_bytes(&mut self, piece: &[u8]) -> Result<(), AllocError>
         requires { self.old.fed + length piece.now ≤ 1048576 }
         ensures stands { OnOk result ((bytes : List ℕ) → Stands self.old bytes → Stands self.new (bytes ++ piece.now)) }
@@ -256,7 +259,7 @@ impl Lexer {
         Ok(())
     }
 
-    // Takes a character behind those that were read.
+    // Takes a character after those that were read.
     #[inline(always)]
     fn take_char(&mut self, c: char) -> Result<(), AllocError>
         requires readable { IsReadable self.old.fault }
@@ -287,7 +290,7 @@ impl Lexer {
         Ok(())
     }
 
-    // Takes a byte behind those that were fed.
+    // Takes a byte after those that were fed.
     fn take_byte(&mut self, byte: u8) -> Result<(), AllocError>
         requires { self.old.fed < 1048576 }
         ensures stands { OnOk result ((bytes : List ℕ) → Stands self.old bytes → Stands self.new (bytes ++ byte ∷ [])) }
@@ -315,7 +318,7 @@ impl Lexer {
         }
     }
 
-    // Whether bytes can still be read behind the fault.
+    // Whether bytes can still be read after the fault.
     fn is_readable(fault: Option<TextStop>) -> bool
         ensures { result ≡ is_readable fault }
     {

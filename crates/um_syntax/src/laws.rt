@@ -1,5 +1,6 @@
 //! Laws of the definitions of tokens. A call does nothing: what it ensures is the law.
-ghost use Rattle.um_syntax.specs.Laws.{EachTextIsAnswered, TokensAreUnique, FaultIsUnique, TokensExcludeFault, NoTokenIsLonger, TokensMakeUpText};
+ghost use Rattle.um_syntax.specs.Laws.{EachTextIsAnswered, TokensAreUnique, FaultIsUnique, TokensExcludeFault};
+ghost use Rattle.um_syntax.specs.Laws.{NoTokenIsLonger, TokensMakeUpText};
 
 /// Each text has tokens or a fault.
 pub fn each_text_is_answered()
@@ -21,7 +22,7 @@ pub fn tokens_exclude_fault()
     ensures { TokensExcludeFault }
 {}
 
-/// Where a token's text may end, no longer token stands at its place.
+/// If a token's text may end, no longer token stands at its place.
 pub fn no_token_is_longer()
     ensures { NoTokenIsLonger }
 {}

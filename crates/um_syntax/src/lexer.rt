@@ -19,8 +19,8 @@ use std::alloc::Global;
 ///
 /// # Errors
 ///
-/// The leftmost fault of the text: a character where no token stands, or a letter directly behind a number; a number
-/// that is too long or out of range; a power, a number behind `^` or `^ -`, that isn't digits alone up to 2147483647.
+/// The leftmost fault of the text: a character at which no token stands, or a letter directly after a number; a number
+/// that is too long or out of range; a power, a number after `^` or `^ -`, that isn't digits alone up to 2147483647.
 /// `NoMemory` may come with any text.
 pub fn lex(alloc: Global, text: &str) -> Result<Tokens, LexStop>
     requires { length text.now ≤ 1048576 }
@@ -28,7 +28,7 @@ pub fn lex(alloc: Global, text: &str) -> Result<Tokens, LexStop>
     ensures ok { IfOk result (λ tokens. HasTokens (chars text.now) tokens) }
     ensures refused { IfErr result (λ stop. IsRefusal (chars text.now) stop) }
 
-    // What the text has is answered, unless memory is wanting.
+    // What the text has is answered, unless memory runs out.
     ensures tokens { (tokens : List Token) → HasTokens (chars text.now) tokens
         → MatchResult result (λ answer. answer ≡ tokens) (λ stop. stop ≡ NoMemory) }
     ensures fault { (stop : LexStop) → HasFault (chars text.now) stop → result ≡ Err stop ⊎ (result ≡ Err NoMemory) }

@@ -1,6 +1,8 @@
 //! The digits of a number's text, read one by one.
 ghost use Rattle.std.specs.Prelude.{◌≡◌, ◌+◌, ◌<◌, ◌≤◌, ◌-◌, ◌^◌, ◌==◌, ◌&&◌, ℕ, length, take, slice_index};
-ghost use Rattle.um_syntax.specs.Machine.{with_digit, one_more, first_figures, more_figures, part_after_digit, is_whole_part, is_allowed, is_one_figure, figures_kind, part_takes, FiguresFit, number_taken, AllKept, IsNumberRun, ends_in_digit};
+ghost use Rattle.um_syntax.specs.Machine.{with_digit, one_more, first_figures, more_figures, part_after_digit};
+ghost use Rattle.um_syntax.specs.Machine.{is_whole_part, is_allowed, figures_kind, part_takes};
+ghost use Rattle.um_syntax.specs.Machine.{FiguresFit, number_taken, AllKept, IsNumberRun, ends_in_digit};
 ghost use Rattle.um_syntax.specs.declared.pending.Pending.TheVariants.{Comment, Number};
 
 use crate::token::Kind;
@@ -65,7 +67,7 @@ impl Part {
 
 /// The digits of a number's text so far, as a fraction that isn't reduced: `above` over `below`, and how many they are.
 ///
-/// The two stand still at `GREATEST`, and the count stands still behind `MOST_DIGITS`.
+/// The two stand still at `GREATEST`, and the count stands still once it has passed `MOST_DIGITS`.
 #[derive(Clone, Copy, Debug, PartialEq, Eq)]
 pub struct Figures {
     pub above: u128,
@@ -73,7 +75,7 @@ pub struct Figures {
     pub count: u32,
 }
 
-// The number with one more digit behind it.
+// The number with one more digit after it.
 fn append(number: u128, digit: u32) -> u128
     requires { digit ≤ 9 }
     ensures value { result ≡ with_digit number digit }
@@ -111,7 +113,7 @@ impl Figures {
         }
     }
 
-    // The figures with one more digit, where `part` is what has been read before it.
+    // The figures with one more digit, after `part` was read.
     pub fn with(self, part: Part, digit: u32) -> Figures
         requires { digit ≤ 9 }
         ensures value { result ≡ more_figures part self digit }
@@ -153,7 +155,7 @@ impl Figures {
         }
     }
 
-    // The kind of the number's token, or `None` where it breaks its rule.
+    // The kind of the number's token, or `None` if it breaks its rule.
     pub fn kind(self, power: bool, part: Part) -> Option<Kind>
         requires { FiguresFit self }
         ensures { result ≡ figures_kind power part self }
@@ -231,7 +233,7 @@ impl NumberText {
         }
     }
 
-    // Whether the text has its last digit, and its end is seen behind it.
+    // Whether the text has its last digit, and its end is seen after it.
     pub fn is_whole(&self) -> bool
         ensures { result ≡ (self.now.end == self.now.len && ends_in_digit (Number 0 0 self.now.part self.now.figures)) }
     {

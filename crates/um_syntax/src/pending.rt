@@ -2,7 +2,8 @@
 ghost use Rattle.std.specs.Prelude.{◌≡◌, ◌<◌, ◌≤◌, true, length, take, drop};
 ghost use Rattle.um_syntax.specs.Gap.{is_space};
 ghost use Rattle.um_syntax.specs.Lexeme.{starts_name};
-ghost use Rattle.um_syntax.specs.Machine.{takes, keeps, AllKept, begins_name, IsNameRun, ends_name, ends_number, ends_in_digit, number_taken, FiguresFit, PendingFits};
+ghost use Rattle.um_syntax.specs.Machine.{takes, keeps, AllKept, begins_name, IsNameRun, ends_name, ends_number};
+ghost use Rattle.um_syntax.specs.Machine.{ends_in_digit, number_taken, FiguresFit, PendingFits};
 ghost use Rattle.um_syntax.specs.declared.pending.Pending.TheVariants as pending;
 
 use crate::number::{Figures, Part};
@@ -122,7 +123,7 @@ pub fn ends_number(bytes: &[u8]) -> bool
     }
 }
 
-// How many bytes at the front are a name that the first of them begins, where its end is seen.
+// How many bytes at the front are a name that the first of them begins, if its end is seen.
 #[inline(always)]
 pub fn name_len(bytes: &[u8]) -> usize
     requires { begins_name bytes.now ≡ true }

@@ -22,7 +22,7 @@ pub fn line_column(text: &[u8], at: u32) -> (u32, u32)
     end_of(before)
 }
 
-// The line and the column behind a text.
+// The line and the column after a text.
 fn end_of(text: &str) -> (u32, u32)
     requires { length text.now < 4294967295 }
     ensures line { result.0 ≡ line_after text.now }

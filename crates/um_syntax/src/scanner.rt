@@ -1,10 +1,13 @@
 //! The machine that reads a text character by character.
-ghost use Rattle.std.specs.Prelude.{◌≡◌, true, ◌+◌, ◌<◌, ◌≤◌, ◌^◌, ◌==◌, ◌&&◌, ◌⊎◌, [], length, slice_index, take, max, OnOk, OnErr, IfOk};
+ghost use Rattle.std.specs.Prelude.{◌≡◌, true, ◌+◌, ◌<◌, ◌≤◌, ◌^◌, ◌==◌, ◌&&◌, [], length, slice_index, take, max};
+ghost use Rattle.std.specs.Prelude.{OnOk, OnErr, IfOk};
 ghost use Rattle.std.specs.Char.{len_utf8};
 ghost use Rattle.std.specs.Option.{option_copied};
 ghost use Rattle.std.specs.String.{string_bytes};
 ghost use Rattle.um_syntax.specs.Lexing.{is_glued, is_power_place, is_caret, is_minus};
-ghost use Rattle.um_syntax.specs.Machine.{scan_start, free_at, step, ended, taken, close, begun, pushed, identifier_pushed, variable_pushed, begins_name, letters_kind, FiguresFit, PendingFits};
+ghost use Rattle.um_syntax.specs.Machine.{scan_start, free_at, step, ended, taken, close, begun, pushed};
+ghost use Rattle.um_syntax.specs.Machine.{identifier_pushed, variable_pushed, begins_name, letters_kind, FiguresFit};
+ghost use Rattle.um_syntax.specs.Machine.{PendingFits};
 ghost use Rattle.um_syntax.specs.declared.pending.Pending.TheVariants as pending;
 ghost use Rattle.um_syntax.specs.Scanning.{scan_of, Scans, Follows, Answers};
 
@@ -62,7 +65,7 @@ fn is_minus(token: Option<&Token>) -> bool
     }
 }
 
-// Whether a number behind the tokens is a power.
+// Whether a number after the tokens is a power.
 fn is_power_place(tokens: &[Token]) -> bool
     ensures { result ≡ is_power_place tokens.now }
 {
@@ -103,7 +106,7 @@ impl Scanner {
         self.tokens.reserve(more)
     }
 
-    // Puts a token behind the others, where nothing has begun.
+    // Puts a token after the others, if nothing has begun.
     #[inline(always)]
     fn add(&mut self, kind: Kind, start: u32, end: u32) -> Result<(), AllocError>
         requires free { self.old.pending ≡ pending.Free }
@@ -123,7 +126,7 @@ impl Scanner {
         Ok(())
     }
 
-    // Puts a token behind the others. Nothing has begun then.
+    // Puts a token after the others. Nothing has begun then.
     fn push(&mut self, kind: Kind, start: u32, end: u32) -> Result<(), AllocError>
         ensures goes { OnOk result (scan_of self.new ≡ pushed (scan_of self.old) kind start end) }
         ensures free { self.new.pending ≡ pending.Free }
@@ -134,7 +137,7 @@ impl Scanner {
         self.add(kind, start, end)
     }
 
-    // Ends the identifier whose letters are at hand.
+    // Ends the identifier whose letters were read.
     fn close_identifier(&mut self, start: u32) -> Result<(), AllocError>
         ensures goes { OnOk result (scan_of self.new ≡ identifier_pushed (scan_of self.old) start) }
         ensures free { OnOk result (self.new.pending ≡ pending.Free) }
@@ -146,7 +149,7 @@ impl Scanner {
         self.push(kind, start, self.at)
     }
 
-    // Ends the variable whose letters are at hand. Where they are a reserved word, the last of them is a name by itself.
+    // Ends the variable whose letters were read. If they are a reserved word, the last of them is a name by itself.
     fn close_variable(&mut self, start: u32, last: u32) -> Result<(), AllocError>
         ensures goes { OnOk result (scan_of self.new ≡ variable_pushed (scan_of self.old) start last) }
         ensures free { OnOk result (self.new.pending ≡ pending.Free) }
@@ -165,7 +168,7 @@ impl Scanner {
         self.push(name, last, self.at)
     }
 
-    // Ends the number that these digits are, and what has been read behind it.
+    // Ends the number that these digits are, and what has been read after it.
     fn close_number(
         &mut self,
         start: u32,
@@ -174,7 +177,8 @@ impl Scanner {
         figures: Figures,
     ) -> Result<(), LexStop>
         requires { FiguresFit figures }
-        ensures goes { Follows result (scan_of self.new) (close (scan_of self.old) (pending.Number start end part figures)) }
+        ensures goes { Follows result (scan_of self.new)
+            (close (scan_of self.old) (pending.Number start end part figures)) }
         ensures free { OnOk result (self.new.pending ≡ pending.Free) }
         ensures fits { PendingFits self.old.pending → PendingFits self.new.pending }
         ensures place { self.new.at ≡ self.old.at }
@@ -229,7 +233,7 @@ impl Scanner {
         Ok(())
     }
 
-    // Takes a character that belongs to what has begun. `next` is the place behind it.
+    // Takes a character that belongs to what has begun. `next` is the place after it.
     fn take(&mut self, c: char, next: u32) -> Result<(), AllocError>
         requires { PendingFits self.old.pending }
         ensures goes { OnOk result (scan_of self.new ≡ taken (scan_of self.old) self.old.pending c next) }
@@ -267,7 +271,7 @@ impl Scanner {
         Ok(())
     }
 
-    // Takes the first character of something, where nothing has begun. `next` is the place behind it.
+    // Takes the first character of something, if nothing has begun. `next` is the place after it.
     fn begin(&mut self, c: char, next: u32) -> Result<(), LexStop>
         requires { self.old.pending ≡ pending.Free }
         ensures goes { Follows result (scan_of self.new) (begun (scan_of self.old) c next) }
@@ -347,8 +351,8 @@ impl Scanner {
         self.begin(c, next)
     }
 
-    /// Takes what stands at the front of a text at once, and answers how many bytes these are: blanks, a token whose end
-    /// is seen, or characters of a comment. None are where `scan` has to take the next character.
+    /// Takes what stands at the front of a text at once, and answers how many bytes these are: blanks, a token whose
+    /// end is seen, or characters of a comment. It answers 0 if `scan` has to take the next character.
     pub fn scan_front(&mut self, text: &str) -> Result<usize, AllocError>
         requires fits { PendingFits self.old.pending }
         requires room { self.old.at + length text.now < 2 ^ 32 }
@@ -377,7 +381,7 @@ impl Scanner {
         len
     }
 
-    // Takes what stands at the front of a text, where nothing has begun: the slashes of a comment, or else tokens.
+    // Takes what stands at the front of a text, if nothing has begun: the slashes of a comment, or tokens.
     fn scan_free(&mut self, text: &str) -> Result<usize, AllocError>
         requires free { self.old.pending ≡ pending.Free }
         requires room { self.old.at + length text.now < 2 ^ 32 }
@@ -455,7 +459,7 @@ impl Scanner {
         }
     }
 
-    // Puts the token that so many bytes are behind the others, and answers how many these are.
+    // Puts the token that so many bytes are after the others, and answers how many these are.
     #[inline(always)]
     fn put(&mut self, kind: Kind, len: usize) -> Result<usize, AllocError>
         requires free { self.old.pending ≡ pending.Free }
@@ -495,7 +499,7 @@ impl Scanner {
         self.put(kind, len)
     }
 
-    // Takes a variable whose end is seen, where its letters are no reserved word.
+    // Takes a variable whose end is seen, if its letters are no reserved word.
     #[inline(never)]
     fn scan_variable(&mut self, text: &str) -> Result<usize, AllocError>
         requires free { self.old.pending ≡ pending.Free }
@@ -525,7 +529,7 @@ impl Scanner {
         self.put(kind, len + 1)
     }
 
-    // Takes a number whose end is seen, where it is in range.
+    // Takes a number whose end is seen, if it is in range.
     #[inline(never)]
     fn scan_number(&mut self, text: &str) -> Result<usize, AllocError>
         requires free { self.old.pending ≡ pending.Free }

@@ -10,7 +10,7 @@ use thiserror::Error;
 use um_frac::Frac;
 use um_inline::InlineBytes;
 
-/// Want of memory, where it is the one error of a call.
+/// Want of memory, as the only error of a call.
 pub type NoMemory = AllocError;
 
 /// A list of bytes: the letters of a name, in UTF-8.
@@ -26,7 +26,7 @@ impl Model for Letters {
 }
 
 impl Letters {
-    /// The letters that the slice holds, copied. Takes no memory where there are at most 16.
+    /// The letters that the slice holds, copied. Takes no memory if there are at most 16.
     pub fn from_slice(alloc: Global, bytes: &[u8]) -> Result<Letters, AllocError>
         ensures { IfOk result (λ l. l ≡ bytes.now) }
     {
@@ -34,7 +34,7 @@ impl Letters {
         Ok(Letters { bytes })
     }
 
-    /// The first `len` letters that the slice holds, copied. Takes no memory where `len` is at most 16.
+    /// The first `len` letters that the slice holds, copied. Takes no memory if `len` is at most 16.
     #[inline(always)]
     pub fn from_front(alloc: Global, bytes: &[u8], len: usize) -> Result<Letters, AllocError>
         requires { len ≤ length bytes.now }
@@ -58,7 +58,7 @@ impl Letters {
         Letters::from_slice(alloc, self.as_slice())
     }
 
-    /// The letters, which leaves none. Takes no memory.
+    /// The letters, taken out: none are left. Takes no memory.
     pub fn take(&mut self, _alloc: Global) -> Letters
         ensures letters { result ≡ self.old }
         ensures none { self.new ≡ [] }
@@ -122,7 +122,7 @@ pub struct Token {
     pub kind: Kind,
     /// The place of its first byte, counted from 0.
     pub start: u32,
-    /// The place behind its last byte.
+    /// The place after its last byte.
     pub end: u32,
     /// Whether nothing was skipped between it and the token before. The first token isn't glued.
     pub glued: bool,

@@ -1,6 +1,7 @@
 //! The reserved words and the symbols of the language, with the table of their texts.
 ghost use Rattle.std.specs.Prelude.{◌≡◌, ◌==◌, ◌&&◌};
-ghost use Rattle.um_syntax.specs.Machine.{keyword_of, keywords, found_keyword, of_len, single_symbol, double_symbol, front_symbol};
+ghost use Rattle.um_syntax.specs.Machine.{keyword_of, keywords, found_keyword, of_len, single_symbol, double_symbol};
+ghost use Rattle.um_syntax.specs.Machine.{front_symbol};
 
 /// A reserved word.
 #[derive(Clone, Copy, Debug)]
@@ -81,7 +82,7 @@ pub enum Symbol {
     Arrow,
 }
 
-// The reserved word with these letters. Few have as many as they are.
+// The reserved word with these letters. Few reserved words have the same number of letters.
 #[inline(always)]
 pub fn keyword_of(letters: &str) -> Option<Keyword>
     ensures { result ≡ keyword_of letters.now }
@@ -204,7 +205,7 @@ pub fn double_symbol(a: char, b: char) -> Option<Symbol>
     }
 }
 
-// The symbol that two characters begin with, and how many characters it has. None are where a comment begins.
+// The symbol that two characters begin with, and how many characters it has. There is none where a comment begins.
 #[inline(always)]
 pub fn front_symbol(first: char, second: char) -> Option<(Symbol, usize)>
     ensures { result ≡ front_symbol first second }
