@@ -1,8 +1,10 @@
 mod Segments
 mod Completing
 mod Outcomes
+mod Stopped
 mod Lookup
 mod Starting
 mod Resuming
 mod Running
 mod Ending
+mod ReadOff

@@ -5,7 +5,7 @@ use Rattle.um_tree.specs.ExprTree.{ExprTree, ExprTrees, truth, number, local, ca
 use Rattle.um_tree.specs.ExprTree.{compare, both, either, if, bind, split, nil, list_expr, cons, record_expr, field}
 use Rattle.um_tree.specs.ExprTree.{none, more, expr_tree, in_order}
 use Rattle.um_tree.specs.ProgramTree.{FunctionTree}
-use Rattle.um_eval.specs.Tasks.{Task, Evaluate, Give, Halt}
+use Rattle.um_eval.specs.Tasks.{Task, Evaluate, Give, Halt, Break}
 use Rattle.um_eval.specs.declared.frame.Frame.{Frame}
 use Rattle.um_eval.specs.declared.frame.Frame.TheVariants as frame
 
@@ -47,7 +47,7 @@ frame_steps (frame.Bound y) = steps (expr_tree y.now) + 2
 frame_steps (frame.Matched x y) = steps (expr_tree x.now) + steps (expr_tree y.now) + 2
 frame_steps (frame.Inner n) = 1
 frame_steps (frame.Item c rest first) = steps_of_each (in_order (map expr_tree rest.now)) + 2
-frame_steps (frame.Body base) = 1
+frame_steps (frame.Body base j at) = 1
 
 abbrev pub frames_steps : List Frame → ℕ
 frames_steps [] = 0
@@ -56,7 +56,8 @@ frames_steps (f ∷ frames) = frame_steps f + frames_steps frames
 abbrev pub task_steps : Task → ℕ
 task_steps (Evaluate e) = steps (expr_tree e.now)
 task_steps (Give w) = 0
-task_steps (Halt r) = 0
+task_steps (Halt r at given) = 0
+task_steps Break = 0
 
 -- no body of a function has more
 abbrev pub most_steps : List FunctionTree → ℕ

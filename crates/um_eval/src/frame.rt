@@ -7,7 +7,8 @@ use um_tree::{Arith, Expr, Sign};
 pub(crate) enum Unary {
     Negate,
     Not,
-    Power(i32),
+    /// The power, and the place of the operation
+    Power(i32, u32),
     /// The record's number and the field's
     Field(u32, u32),
 }
@@ -15,7 +16,8 @@ pub(crate) enum Unary {
 /// The operations of two parts that are both evaluated.
 #[derive(Clone, Copy)]
 pub(crate) enum Binary {
-    Arith(Arith),
+    /// With the place of the operation
+    Arith(Arith, u32),
     Compare(Sign),
     Cons,
 }
@@ -26,8 +28,8 @@ pub(crate) enum Collection {
     List,
     /// A value of the record of this number
     Rec(u32),
-    /// A call of the function of this number
-    Call(u32),
+    /// A call of the function of this number, and the place of the call
+    Call(u32, u32),
 }
 
 /// Where the expression stands that is evaluated.
@@ -50,6 +52,6 @@ pub(crate) enum Frame<'a> {
     Inner(usize),
     /// The items after it, and where the values of those before it begin
     Item(Collection, &'a [Expr], usize),
-    /// The body of a function: where the caller's variables begin
-    Body(usize),
+    /// The body of a function: where the caller's variables begin, the function's number, and the place of the call
+    Body(usize, u32, u32),
 }

@@ -6,6 +6,7 @@
 //! ```
 //! let runner = TreeRunner::new(&shaped);
 //! let outcome = runner.call(alloc, f, args, budget)?; // a value, a trap, or the end of the budget
+//! let path = runner.trace(alloc, f, args, budget)?; // where such a call stops
 //! ```
 #![tactic(auto)]
 
@@ -14,7 +15,10 @@ mod evaluator;
 mod frame;
 mod next;
 mod operations;
+mod path;
 mod runner;
 mod scope;
+mod stop;
 
 pub use runner::TreeRunner;
+pub use stop::{Operands, Path, Spot};

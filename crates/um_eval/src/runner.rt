@@ -1,5 +1,6 @@
 //! The tree runner.
-use crate::call::{put_arguments, run_call};
+use crate::call::{put_arguments, run_call, trace_call};
+use crate::stop::Path;
 use std::alloc::Global;
 use std::marker::Model;
 use um_cells::{Runner, Store};
@@ -25,13 +26,40 @@ impl<'a> Model for TreeRunner<'a> {
 }
 
 impl<'a> TreeRunner<'a> {
-    ghost use Rattle.std.specs.Prelude.{◌≡◌};
+    ghost use Rattle.std.specs.Prelude.{◌≡◌, IfOk, map};
+    ghost use Rattle.um_tree.specs.ValueTree.{value_tree};
+    ghost use Rattle.um_tree.specs.ProgramTree.{program_tree};
+    ghost use Rattle.um_cells.specs.Arguments.{AreArgumentsOf};
+    ghost use Rattle.um_eval.specs.Paths.{IsFound};
 
     /// A runner of the program. Takes no memory.
     pub fn new(shaped: &'a Shaped) -> TreeRunner<'a>
         ensures { result ≡ shaped.now }
     {
         TreeRunner { shaped }
+    }
+
+    /// Where a call stops, if it does so in the body of its function: at which node, on which operands, and inside which
+    /// calls. It is the one trace of the call (`um_trace`). There is none if the call gives a value, or if its own call
+    /// finds no budget.
+    ///
+    /// `f` is the number of a function of the program, counted from 0, and the values have the shapes of its parameters.
+    /// `NoMemory` is the one error. The rule is this project's own.
+    pub fn trace(
+        &self,
+        alloc: Global,
+        f: u32,
+        args: Values,
+        budget: u64,
+    ) -> Result<Option<Path>, NoMemory>
+        requires arguments { AreArgumentsOf (program_tree self.now) f (map value_tree args.items.items) }
+        ensures { IfOk result (λ found. IsFound (program_tree self.now).functions f (map value_tree args.items.items)
+            budget found) }
+    {
+        let functions = &self.shaped.program().functions.items;
+        let mut store = Store::new(alloc);
+        let words = put_arguments(alloc, &mut store, args)?;
+        trace_call(alloc, functions, store, f, words, budget)
     }
 }
 

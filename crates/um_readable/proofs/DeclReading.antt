@@ -40,7 +40,7 @@ field_decls_leave : (fs : List FieldDeclSyntax) (tokens rest : List Token) → F
 field_decls_leave [] tokens rest s fits = absurd s
 field_decls_leave (f ∷ fs) tokens rest s fits = thence (field_leaves f tokens s.0 s.1 fits.0) (more_field_decls_leave fs s.0 rest s.2 fits.1)
 
-params_leave : (ps : List ParamSyntax) (tokens rest : List Token) → ParamsSpell ps tokens rest → ParamsFit ps → Leaves tokens rest
+pub params_leave : (ps : List ParamSyntax) (tokens rest : List Token) → ParamsSpell ps tokens rest → ParamsFit ps → Leaves tokens rest
 params_leave [] tokens rest s fits = leaves_all tokens rest s
 params_leave (p ∷ ps) tokens rest s fits =
     let one = s.1 in
@@ -53,7 +53,7 @@ params_leave (p ∷ ps) tokens rest s fits =
     )
     )
 
-result_leaves : (recursive : Bool) (r : Option TypeSyntax) (tokens rest : List Token) → ResultSpells r tokens rest → ResultFits recursive r → Leaves tokens rest
+pub result_leaves : (recursive : Bool) (r : Option TypeSyntax) (tokens rest : List Token) → ResultSpells r tokens rest → ResultFits recursive r → Leaves tokens rest
 result_leaves recursive None tokens rest s fits = leaves_all tokens rest s
 result_leaves recursive (Some t) tokens rest s fits = thence (first_leaves _ tokens s.0 s.1) (type_leaves t s.0 rest s.2 fits)
 

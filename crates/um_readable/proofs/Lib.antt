@@ -9,3 +9,7 @@ mod LimitCounts
 pub mod Readability
 pub mod TextBytes
 pub mod NamesWithin
+mod TokenPlaces
+mod ExprPlaces
+mod ResolvedPlaces
+pub mod NodePlaces

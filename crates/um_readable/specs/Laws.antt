@@ -8,6 +8,7 @@ use Rattle.um_tree.specs.RawTree.{DeclSyntax}
 use Rattle.um_parse.specs.Parsed.{IsRead}
 use Rattle.um_names.specs.Readable.{IsReadable}
 use Rattle.um_names.specs.Resolution.{resolved_program}
+use Rattle.um_readable.specs.Places.{IsPlace, EachPlace}
 
 -- A text has no more tokens than characters.
 abbrev pub TokensAreWithin : Type 0
@@ -31,3 +32,10 @@ NamesAreWithin =
     (bytes : List ℕ) (tokens : List Token) (ds : List DeclSyntax) (p : ProgramTree)
     → IsTextAnswer bytes (Ok tokens) → IsRead tokens ds → resolved_program ds ≡ Ok p
     → EachName (λ name. length name ≤ length bytes) p
+
+-- Each node of a program stands before a character of its text.
+abbrev pub NodesHavePlaces : Type 0
+NodesHavePlaces =
+    (bytes : List ℕ) (tokens : List Token) (ds : List DeclSyntax) (p : ProgramTree)
+    → IsTextAnswer bytes (Ok tokens) → IsRead tokens ds → resolved_program ds ≡ Ok p
+    → All (λ f. EachPlace (IsPlace bytes) f.body) p.functions

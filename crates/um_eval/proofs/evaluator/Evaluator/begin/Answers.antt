@@ -5,7 +5,7 @@ use Rattle.um_eval.specs.Progress.{Within}
 use Rattle.um_eval.proofs.evaluator.Evaluator.begin.Goals as goal
 
 pub returns-in-Ok : goal.returns-in-Ok
-returns-in-Ok c = λ fs out n h.
+returns-in-Ok c = λ fs whole n h.
     let m = c.args.self.now in
-    subst (λ frames. Within fs m frames (Evaluate c.args.part) out n)
+    subst (λ frames. Within fs m frames (Evaluate c.args.part) whole n)
     (sym (ap reverse c.in-Ok.ensures.items ∙ reverse-append m.frames.items (c.args.frame ∷ []))) h

@@ -8,13 +8,13 @@ pub collect-requires : goal.collect-requires
 collect-requires c =
     let m = c.args.self.now in
     let fs = map function_tree c.args.functions.now in
-    let (out, n, h) = c.requires in
+    let (whole, n, h) = c.requires in
     let same : c.len-first.result ≡ length m.values.items = c.len-first.ensures ∙ m.values.ok.0 in
-    (out, n, subst (λ k. Collects fs m c.args.c (in_order (map expr_tree c.args.items.now)) k out n) (sym same) h)
+    (whole, n, subst (λ k. Collects fs m c.args.c (in_order (map expr_tree c.args.items.now)) k whole n) (sym same) h)
 
 pub returns : goal.returns
-returns c = λ out n h.
+returns c = λ whole n h.
     let m = c.args.self.now in
     let fs = map function_tree c.args.functions.now in
     let same : c.len-first.result ≡ length m.values.items = c.len-first.ensures ∙ m.values.ok.0 in
-    c.collect.ensures out n (subst (λ k. Collects fs m c.args.c (in_order (map expr_tree c.args.items.now)) k out n) (sym same) h)
+    c.collect.ensures whole n (subst (λ k. Collects fs m c.args.c (in_order (map expr_tree c.args.items.now)) k whole n) (sym same) h)

@@ -11,15 +11,15 @@ use Rattle.um_eval.proofs.evaluator.Evaluator.make_list.Goals as goal
 pub make_list-requires : goal.make_list-requires
 make_list-requires c =
     let m = c.args.self.now in
-    let (fs, out, n, h) = c.requires.all in
+    let (fs, whole, n, h) = c.requires.all in
     let same : take (length c.deref.result.now - c.args.first) (drop c.args.first c.deref.result.now) ≡ drop c.args.first m.values.items = take_rest c.deref.result.now c.args.first ∙ ap (drop c.args.first) c.deref.ensures.value in
-    subst (λ ws. HaveValues m.store ws) (sym same) (values_there fs m.store (callers_of m.scope) (own_of m.scope) m.values.items m.budget (frames_of m) out collection.List c.args.first n h)
+    subst (λ ws. HaveValues m.store ws) (sym same) (values_there fs m.store (callers_of m.scope) (own_of m.scope) m.values.items m.budget (frames_of m) whole collection.List c.args.first n h)
 
 pub returns-in-Ok : goal.returns-in-Ok
-returns-in-Ok c = λ fs out n h.
+returns-in-Ok c = λ fs whole n h.
     let m = c.args.self.now in
     let same : take (length c.deref.result.now - c.args.first) (drop c.args.first c.deref.result.now) ≡ drop c.args.first m.values.items = take_rest c.deref.result.now c.args.first ∙ ap (drop c.args.first) c.deref.ensures.value in
-    c.give.ensures fs out n
-    (made_leads fs m.store (callers_of m.scope) (own_of m.scope) m.values.items m.budget (frames_of m) out collection.List c.args.first n c.make_list.new.self c.truncate.new.self.items c.in-Ok.word (λ vs. list_value (values_in_order vs)) c.truncate.ensures.items c.make_list.ensures.keeps
+    c.give.ensures fs whole n
+    (made_leads fs m.store (callers_of m.scope) (own_of m.scope) m.values.items m.budget (frames_of m) whole collection.List c.args.first n c.make_list.new.self c.truncate.new.self.items c.in-Ok.word (λ vs. list_value (values_in_order vs)) c.truncate.ensures.items c.make_list.ensures.keeps
     (λ vs d. c.in-Ok.ensures.denotes vs (subst (λ ws. AllDenote m.store ws vs) (sym same) d))
     (λ vs. refl) h)

@@ -1,0 +1,4 @@
+pub mod Traced
+pub mod SomeTrace
+pub mod Bodies
+mod OneTrace
