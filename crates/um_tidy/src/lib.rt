@@ -1,0 +1,14 @@
+//! A layout that keeps the tokens, the comments and the line breaks of a text.
+//!
+//! ```
+//! let text = tidy_text(alloc, "let  k=1<m> // one", tokens.as_slice())?; // `let k = 1<m> // one` and a line feed
+//! ```
+#![tactic(auto)]
+
+mod gap;
+pub mod laws;
+mod spacing;
+mod stand;
+mod text;
+
+pub use text::tidy_text;

@@ -1,0 +1,121 @@
+// A text laid out anew.
+ghost use Rattle.std.specs.Prelude.{◌≡◌, ◌≤◌, ◌++◌, OnOk, IfOk, length, slice_range};
+ghost use Rattle.std.specs.Str.{chars};
+ghost use Rattle.um_syntax.specs.Lexing.{body_place, HasTokens};
+ghost use Rattle.um_tidy.specs.Stands.{stand_of};
+ghost use Rattle.um_tidy.specs.Spaces.{is_spaced};
+ghost use Rattle.um_tidy.specs.Gaps.{inner_gap};
+ghost use Rattle.um_tidy.specs.Tidied.{spelling, tidied_after, tidied_from, tidied};
+ghost use Rattle.um_tidy.specs.Order.{AreInOrder};
+
+use crate::gap::{push_first_gap, push_inner_gap, push_last_gap, push_only_gap};
+use crate::spacing::is_spaced;
+use crate::stand::{Stand, stand_of, start};
+use std::alloc::{AllocError, Global};
+use um_syntax::{NoMemory, Token};
+
+/// The text laid out anew: its tokens as they are spelled, its comments and its line breaks stay, and the white space
+/// between them is that of the layout of programs.
+///
+/// A line whose first token begins a declaration loses its indentation. Other lines with a token keep theirs, in
+/// spaces, with at least two. Of several blank lines in a row one stays, and none at the start and the end. The text
+/// is at most 1,048,576 bytes long, and the tokens are its own. `NoMemory` is the one error. The layout is this
+/// project's own.
+pub fn tidy_text(alloc: Global, text: &str, tokens: &[Token]) -> Result<Vec<u8>, NoMemory>
+    requires short { length text.now ≤ 1048576 }
+    requires tokens { HasTokens (chars text.now) tokens.now }
+    ensures { IfOk result (λ answer. answer.items ≡ tidied text.now tokens.now) }
+{
+    tidied_from(alloc, mark_len(text), text.as_bytes(), tokens)
+}
+
+/// How many bytes a byte order mark takes at the front.
+fn mark_len(text: &str) -> usize
+    ensures { result ≡ body_place (chars text.now) }
+{
+    match text.chars().next() {
+        Some('\u{feff}') => 3,
+        _ => 0,
+    }
+}
+
+/// The bytes from a place on, with the tokens that stand there.
+fn tidied_from(
+    alloc: Global,
+    at: usize,
+    bytes: &[u8],
+    tokens: &[Token],
+) -> Result<Vec<u8>, AllocError>
+    requires short { length bytes.now ≤ 1048576 }
+    requires in_order { AreInOrder at tokens.now (length bytes.now) }
+    ensures { IfOk result (λ answer. answer.items ≡ tidied_from at bytes.now tokens.now) }
+{
+    let mut text = Vec::new(alloc);
+    let Some((first, rest)) = tokens.split_first() else {
+        push_only_gap(&mut text, &bytes[at..])?;
+        return Ok(text);
+    };
+    let stand = stand_of(start(), first);
+    push_first_gap(&mut text, &bytes[at..first.start as usize], stand.begins)?;
+    push_spelling(&mut text, bytes, first)?;
+    push_after(&mut text, bytes, stand, first, rest)?;
+    Ok(text)
+}
+
+/// Adds what follows a token that stands so.
+fn push_after(
+    text: &mut Vec<u8>,
+    bytes: &[u8],
+    stand: Stand,
+    token: &Token,
+    tokens: &[Token],
+) -> Result<(), AllocError>
+    requires short { length bytes.now ≤ 1048576 }
+    requires in_order { AreInOrder token.now.end tokens.now (length bytes.now) }
+    ensures { OnOk result (text.new.items
+        ≡ text.old.items ++ tidied_after bytes.now stand token.now tokens.now) }
+{
+    let mut stand = stand;
+    let mut last = token;
+    for k in 0..tokens.len() {
+        let token = &tokens[k];
+        stand = push_token(text, bytes, stand, last, token)?;
+        last = token;
+    }
+    push_last_gap(text, &bytes[last.end as usize..])
+}
+
+/// Adds a token with what stands between it and the one before it, and tells how it stands.
+fn push_token(
+    text: &mut Vec<u8>,
+    bytes: &[u8],
+    stand: Stand,
+    last: &Token,
+    token: &Token,
+) -> Result<Stand, AllocError>
+    requires short { length bytes.now ≤ 1048576 }
+    requires from { last.now.end ≤ token.now.start }
+    requires start { token.now.start ≤ token.now.end }
+    requires end { token.now.end ≤ length bytes.now }
+    ensures stand { IfOk result (λ next. next ≡ stand_of stand token.now) }
+    ensures added { OnOk result (text.new.items ≡ text.old.items
+        ++ (inner_gap (is_spaced stand last.now.kind (stand_of stand token.now) token.now.kind)
+        (stand_of stand token.now).begins (slice_range bytes.now last.now.end token.now.start)
+        ++ spelling bytes.now token.now)) }
+{
+    let next = stand_of(stand, token);
+    let gap = &bytes[last.end as usize..token.start as usize];
+    let spaced = is_spaced(stand, &last.kind, next, &token.kind);
+    push_inner_gap(text, gap, spaced, next.begins)?;
+    push_spelling(text, bytes, token)?;
+    Ok(next)
+}
+
+/// Adds a token as it is spelled.
+fn push_spelling(text: &mut Vec<u8>, bytes: &[u8], token: &Token) -> Result<(), AllocError>
+    requires start { token.now.start ≤ token.now.end }
+    requires end { token.now.end ≤ length bytes.now }
+    ensures { OnOk result (text.new.items ≡ text.old.items ++ spelling bytes.now token.now) }
+{
+    text.extend_from_slice(&bytes[token.start as usize..token.end as usize])
+}
