@@ -1,5 +1,5 @@
 -- A function conforms if each instance of the signature is a typing of it and no power passes the range.
-use Rattle.std.proofs.Common.{◌≡◌, ℕ, List, length, chars, Result, Ok, Err, Some, MatchOption, sym, ap, subst, ◌∙◌}
+use Rattle.std.proofs.Common.{◌≡◌, ℕ, List, length, chars, Result, Ok, Err, Some, MatchOption, sym, ap, subst}
 use Rattle.um_tree.specs.TypeTree.{TypeTree, type_trees}
 use Rattle.um_tree.specs.ProgramTree.{ProgramTree, SchemeTree}
 use Rattle.um_tree.specs.Formed.{IsFormed}

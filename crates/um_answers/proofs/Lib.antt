@@ -1,7 +1,7 @@
 mod CodeEntries
 mod SchemesGiven
 mod SchemesPrinted
-mod ShortNames
+pub mod ShortNames
 pub mod ConformsDone
 pub mod ConformAnswers
 pub mod ImageAnswers

@@ -1,5 +1,7 @@
--- The answers to `types`, `code`, `fmt` and `prove`: each but the last is one, and none has the status of a fault.
-use Rattle.std.proofs.Common.{◌≡◌, ℕ, ℤ, ◌<◌, List, IsTrue, length, Result, Ok, Err, refl, sym, subst, ◌∙◌}
+-- The answers to `types`, `code`, `fmt`, `tidy` and `prove`: each but the last is one, and none has the status of a fault.
+use Rattle.std.proofs.Common.{◌≡◌, ℕ, ℤ, List, IsTrue, length, Result, Ok, Err, refl, sym, ap, subst, ◌∙◌}
+use Rattle.std.specs.Str.{chars}
+use Rattle.um_syntax.proofs.Whole.{unique_tokens}
 use Rattle.um_parse.specs.Laws.{AnswersAreUnique}
 use Rattle.um_tree.specs.RawTree.{DeclSyntax}
 use Rattle.um_tree.specs.ProgramTree.{ProgramTree}
@@ -14,16 +16,17 @@ use Rattle.um_proof.specs.declared.stop.ProveStop.TheVariants as prove_stop
 use Rattle.um_proof.specs.Proving.{PassesInFunction, IsProved}
 use Rattle.um_reports.specs.declared.status.Status.{Status}
 use Rattle.um_reports.specs.declared.status.Status.TheVariants.{Done}
-use Rattle.um_reports.specs.Steps.{IsReply}
 use Rattle.um_reports.proofs.ReportStatuses.{is_answered}
-use Rattle.um_front.specs.Stages.{IsReadText, ShapedTree, IsShapedText, CheckedTree, IsCheckedText}
+use Rattle.um_front.specs.Stages.{IsReadText, ShapedTree, CheckedTree, IsCheckedText}
 use Rattle.um_front.proofs.CheckedTexts.{shaped_is_formed}
 use Rattle.um_front.proofs.StageLaws.{read_given, read_answered, read_once, shaped_given, shaped_answered, checked_given, checked_answered, checked_once}
 use Rattle.um_answers.specs.TypesAnswer.{IsSchemeList, TypesAnswer}
 use Rattle.um_answers.specs.CodeAnswer.{IsListing, CodeAnswer}
 use Rattle.um_answers.specs.FmtAnswer.{IsLayout, FmtAnswer}
+use Rattle.um_tidy.specs.Tidied.{tidied}
+use Rattle.um_answers.specs.TidyAnswer.{IsTidied, TidyAnswer}
 use Rattle.um_answers.specs.ProveAnswer.{IsProofReply, IsProveReply, ProveAnswer}
-use Rattle.um_answers.specs.Passing.{EachIsTyped, IsTypedText, IsProvableText}
+use Rattle.um_answers.specs.Passing.{IsTypedText, IsProvableText}
 
 done_answered : (status : Status) → status ≡ Done → IsTrue (is_answered status)
 done_answered status done = rw done refl
@@ -75,6 +78,21 @@ module _ (bytes text : List ℕ) (status : Status) where
   pub fmt_done : (raw : List DeclSyntax) → IsReadText bytes raw → FmtAnswer bytes text status → status ≡ Done
   unfolding FmtAnswer
   fmt_done raw is answer = (read_given IsLayout bytes text status raw is answer).1
+
+  -- ---- tidy
+  pub TidyAnswer-status : TidyAnswer bytes text status → IsTrue (is_answered status)
+  unfolding TidyAnswer
+  TidyAnswer-status answer = read_answered (IsTidied bytes) bytes text status (λ raw reply. done_answered status reply.2.1) answer
+
+  pub tidy_one : (other : List ℕ) (another : Status) → AnswersAreUnique → TidyAnswer bytes text status → TidyAnswer bytes other another → (text ≡ other) × (status ≡ another)
+  unfolding TidyAnswer
+  tidy_one other another one a b =
+      read_once (IsTidied bytes) bytes text status other another one
+      (λ raw x y. (x.2.0 ∙ ap (tidied bytes) (unique_tokens (chars bytes) x.0 y.0 x.1.1 y.1.1) ∙ sym y.2.0, x.2.1 ∙ sym y.2.1)) a b
+
+  pub tidy_done : (raw : List DeclSyntax) → IsReadText bytes raw → TidyAnswer bytes text status → status ≡ Done
+  unfolding TidyAnswer
+  tidy_done raw is answer = (read_given (IsTidied bytes) bytes text status raw is answer).2.1
 
   -- ---- prove
   abbrev IsOfText : ShapedTree → List ℕ → Status → Type 0

@@ -2,6 +2,7 @@
 pub mod TypesAnswer
 pub mod CodeAnswer
 pub mod FmtAnswer
+pub mod TidyAnswer
 pub mod ConformAnswer
 pub mod RescaleAnswer
 pub mod ProveAnswer

@@ -35,4 +35,5 @@ IsProveReply bytes p text status =
 -- of a text's program
 unfoldable pub ProveAnswer : List ℕ → List ℕ → Status → Type 0
 ProveAnswer bytes text status =
-    OfShaped (λ (s : ShapedTree) (reply : List ℕ) (end : Status). IsProveReply bytes s.program reply end) bytes text status
+    OfShaped (λ (s : ShapedTree) (reply : List ℕ) (end : Status). IsProveReply bytes s.program reply end)
+    bytes text status

@@ -14,31 +14,24 @@ use um_sig::{Signature, conform, read_signature};
 
 /// The answer to `conform` about a text.
 ///
-/// The text of the signature is at most 1,048,576 bytes long. Want of memory is the one error; each refusal is an answer.
-/// That a scheme has all instances of a signature is Kennedy's (1996).
+/// The text of the signature is at most 1,048,576 bytes long. Want of memory is the one error; each refusal is an
+/// answer. That a scheme has all instances of a signature is Kennedy's (1996).
 #[tactic(auto, unfolding(crate::specs::ConformAnswer::ConformAnswer))]
 pub fn answer_conform(alloc: Global, name: &str, signature: &str, text: Text) -> Answer
     requires short { length signature.now ≤ 1048576 }
     ensures { IfOk result (λ reply. ConformAnswer name.now signature.now text reply.text.items reply.status) }
 {
     match check(alloc, text) {
-        Ok(checked) => answer_whole(alloc, name, signature, checked),
+        Ok(checked) => {
+            let answer = answer_checked(alloc, name, signature, &checked);
+            drop(checked);
+            answer
+        }
         Err(refused) => refused,
     }
 }
 
 /// The answer in a program with its schemes.
-fn answer_whole(alloc: Global, name: &str, signature: &str, checked: Checked) -> Answer
-    requires short { length signature.now ≤ 1048576 }
-    ensures { IfOk result (λ reply. IsConformAnswer name.now signature.now (checked_tree checked)
-        reply.text.items reply.status) }
-{
-    let answer = answer_checked(alloc, name, signature, &checked);
-    drop(checked);
-    answer
-}
-
-/// The same, and the program is kept.
 #[tactic(auto, unfolding(crate::specs::ConformAnswer::IsConformAnswer))]
 fn answer_checked(alloc: Global, name: &str, signature: &str, checked: &Checked) -> Answer
     requires short { length signature.now ≤ 1048576 }

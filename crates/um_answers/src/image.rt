@@ -21,21 +21,16 @@ pub fn answer_image(alloc: Global, text: Text) -> Answer
     ensures { IfOk result (λ reply. ImageAnswer text reply.text.items reply.status) }
 {
     match check(alloc, text) {
-        Ok(checked) => reply_whole(alloc, checked),
+        Ok(checked) => {
+            let reply = reply_image(alloc, &checked);
+            drop(checked);
+            reply
+        }
         Err(refused) => refused,
     }
 }
 
 /// The bytes of the image of the program with its code.
-fn reply_whole(alloc: Global, checked: Checked) -> Answer
-    ensures { IfOk result (λ reply. IsImageReply (checked_tree checked) reply.text.items reply.status) }
-{
-    let reply = reply_image(alloc, &checked);
-    drop(checked);
-    reply
-}
-
-/// The same, and the program is kept.
 #[tactic(auto, unfolding(crate::specs::ImageAnswer::IsImageReply))]
 fn reply_image(alloc: Global, checked: &Checked) -> Answer
     ensures { IfOk result (λ reply. IsImageReply (checked_tree checked.now) reply.text.items reply.status) }

@@ -11,6 +11,7 @@ mod fmt;
 mod image;
 mod prove;
 mod rescale;
+mod tidy;
 mod types;
 
 pub use code::answer_code;
@@ -19,4 +20,5 @@ pub use fmt::answer_fmt;
 pub use image::answer_image;
 pub use prove::answer_prove;
 pub use rescale::answer_rescale;
+pub use tidy::answer_tidy;
 pub use types::answer_types;

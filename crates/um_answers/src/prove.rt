@@ -7,7 +7,7 @@ ghost use Rattle.um_answers.specs.ProveAnswer.{ProveAnswer, IsProveReply};
 
 use std::alloc::{AllocError, Global};
 use um_certificates::certificates_text;
-use um_front::{Answer, ShapedText, Text, function_at, shape_text};
+use um_front::{Answer, Text, function_at, shape_text};
 use um_proof::{Proofs, ProveStop, prove};
 use um_reports::{Reply, Status, reply_to_certificate, reply_to_range, reply_to_slots};
 use um_shape::Shaped;
@@ -21,22 +21,16 @@ pub fn answer_prove(alloc: Global, text: Text) -> Answer
     ensures { IfOk result (λ reply. ProveAnswer text reply.text.items reply.status) }
 {
     match shape_text(alloc, text) {
-        Ok(shaped) => reply_whole(alloc, shaped),
+        Ok(shaped) => {
+            let reply = reply_proof(alloc, &shaped.text.bytes, &shaped.shaped);
+            drop(shaped);
+            reply
+        }
         Err(refused) => refused,
     }
 }
 
 /// The certificates of the functions, or why they aren't made.
-fn reply_whole(alloc: Global, text: ShapedText) -> Answer
-    ensures { IfOk result (λ reply. IsProveReply text.text.bytes.items (program_tree text.shaped)
-        reply.text.items reply.status) }
-{
-    let reply = reply_proof(alloc, &text.text.bytes, &text.shaped);
-    drop(text);
-    reply
-}
-
-/// The same, and the program is kept.
 fn reply_proof(alloc: Global, bytes: &[u8], shaped: &Shaped) -> Answer
     ensures { IfOk result (λ reply. IsProveReply bytes.now (program_tree shaped.now)
         reply.text.items reply.status) }

@@ -1,11 +1,9 @@
 // The answer to `rescale`: a program in other sizes of its base units.
 ghost use Rattle.std.specs.Prelude.{◌≡◌, IfOk, IsTrue};
 ghost use Rattle.um_tree.specs.ProgramTree.{program_tree};
-ghost use Rattle.um_tree.specs.RawTree.{DeclSyntax};
 ghost use Rattle.um_scale.specs.RescaledText.{IsRescaledText};
 ghost use Rattle.um_sizes.specs.ScaleWords.{is_scales};
 ghost use Rattle.um_front.specs.Parts.{checked_tree};
-ghost use Rattle.um_front.specs.Stages.{IsReadText};
 ghost use Rattle.um_answers.specs.RescaleAnswer.{RescaleAnswer, IsRescaled, LiteralsAnswer};
 
 use std::alloc::{AllocError, Global};
@@ -25,23 +23,16 @@ pub fn answer_rescale(alloc: Global, sizes: &str, text: Text) -> Answer
     ensures { IfOk result (λ reply. RescaleAnswer sizes.now text reply.text.items reply.status) }
 {
     match check(alloc, text) {
-        Ok(checked) => answer_whole(alloc, sizes, checked),
+        Ok(checked) => {
+            let answer = answer_checked(alloc, sizes, &checked);
+            drop(checked);
+            answer
+        }
         Err(refused) => refused,
     }
 }
 
 /// The answer in a program with its schemes.
-fn answer_whole(alloc: Global, sizes: &str, checked: Checked) -> Answer
-    requires stated { IsTrue (is_scales sizes.now) }
-    ensures { IfOk result (λ reply. IsRescaled sizes.now checked.text.text.bytes.items (checked_tree checked)
-        reply.text.items reply.status) }
-{
-    let answer = answer_checked(alloc, sizes, &checked);
-    drop(checked);
-    answer
-}
-
-/// The same, and the program is kept.
 #[tactic(auto, unfolding(crate::specs::RescaleAnswer::IsRescaled))]
 fn answer_checked(alloc: Global, sizes: &str, checked: &Checked) -> Answer
     requires stated { IsTrue (is_scales sizes.now) }
@@ -49,19 +40,13 @@ fn answer_checked(alloc: Global, sizes: &str, checked: &Checked) -> Answer
         (checked_tree checked.now) reply.text.items reply.status) }
 {
     match read_scales(alloc, sizes, checked.program()) {
-        Ok(scales) => answer_sized(alloc, checked, scales),
+        Ok(scales) => {
+            let answer = answer_literals(alloc, checked, &scales);
+            drop(scales);
+            answer
+        }
         Err(refusal) => reply_to_sizes(alloc, refusal),
     }
-}
-
-/// The answer by the sizes of the base units.
-fn answer_sized(alloc: Global, checked: &Checked, scales: Scales) -> Answer
-    ensures { IfOk result (λ reply. LiteralsAnswer scales checked.now.text.text.bytes.items
-        (program_tree checked.now.text.shaped) reply.text.items reply.status) }
-{
-    let answer = answer_literals(alloc, checked, &scales);
-    drop(scales);
-    answer
 }
 
 /// The text with its literals rescaled, or the first that doesn't fit.

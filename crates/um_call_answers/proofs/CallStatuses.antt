@@ -1,20 +1,20 @@
 -- No answer to a call has the status of a fault.
-use Rattle.std.proofs.Common.{ℕ, ◌-◌, List, IsTrue, Result, Ok, Err, Option, refl, inl, inr}
+use Rattle.std.proofs.Common.{ℕ, ◌-◌, List, IsTrue, Option, refl, inl, inr}
 use Rattle.um_tree.specs.TypeTree.{TypeTree}
 use Rattle.um_tree.specs.ValueTree.{OutcomeTree, value_outcome, trap_outcome, budget_outcome}
 use Rattle.um_tree.specs.ProgramTree.{ProgramTree}
-use Rattle.um_run.specs.declared.call.CallRefusal.{CallRefusal}
 use Rattle.um_run.specs.Calls.{CallTree}
 use Rattle.um_reports.specs.declared.status.Status.{Status}
-use Rattle.um_reports.proofs.ReportStatuses.{is_answered, call_reply}
+use Rattle.um_reports.proofs.ReportStatuses.{is_answered}
 use Rattle.um_front.specs.Stages.{CheckedTree}
 use Rattle.um_front.proofs.StageLaws.{checked_answered}
 use Rattle.um_call_answers.specs.declared.way.Way.{Way}
 use Rattle.um_call_answers.specs.declared.way.Way.TheVariants as way
 use Rattle.um_call_answers.specs.AskedCall.{AskedCall}
-use Rattle.um_call_answers.specs.CallAnswer.{CallAnswer, IsCallAnswer, ByCall, RunAnswer, IsOutcomeReply}
+use Rattle.um_call_answers.specs.CallAnswer.{CallAnswer, IsCallAnswer, RunAnswer, IsOutcomeReply}
 use Rattle.um_call_answers.specs.BigText.{big_text}
 use Rattle.um_call_answers.specs.BigAnswer.{BigAnswer, IsBigAnswer, last_call}
+use Rattle.um_call_answers.proofs.CallStage.{call_answered}
 
 pub outcome_reply : (p : ProgramTree) (t : TypeTree) (o : OutcomeTree) (steps : Option ℕ) (text : List ℕ) (status : Status) → IsOutcomeReply p t o steps text status → IsTrue (is_answered status)
 outcome_reply p t (value_outcome v) steps text status (inl (fits, reply)) = rw reply.1 refl
@@ -22,14 +22,14 @@ outcome_reply p t (value_outcome v) steps text status (inr (unfit, reply)) = rw 
 outcome_reply p t (trap_outcome why) steps text status reply = rw reply.1 refl
 outcome_reply p t budget_outcome steps text status reply = rw reply.1 refl
 
-by_call_status : (way : Way) (asked : AskedCall) (p : ProgramTree) (r : Result CallTree CallRefusal) (text : List ℕ) (status : Status) → ByCall way asked p r text status → IsTrue (is_answered status)
+run_status : (way : Way) (budget : ℕ) (p : ProgramTree) (call : CallTree) (text : List ℕ) (status : Status) → RunAnswer way budget p call text status → IsTrue (is_answered status)
 unfolding RunAnswer
-by_call_status way asked p (Ok call) text status (o, meant, steps, counted, reply) = outcome_reply p call.type o steps text status reply
-by_call_status way asked p (Err refused) text status reply = call_reply asked.texts refused text status reply
+run_status way budget p call text status (o, meant, steps, counted, reply) = outcome_reply p call.type o steps text status reply
 
-call_status : (way : Way) (asked : AskedCall) (c : CheckedTree) (text : List ℕ) (status : Status) → IsCallAnswer way asked c text status → IsTrue (is_answered status)
+pub call_status : (way : Way) (asked : AskedCall) (c : CheckedTree) (text : List ℕ) (status : Status) → IsCallAnswer way asked c text status → IsTrue (is_answered status)
 unfolding IsCallAnswer
-call_status way asked c text status (r, named, answer) = by_call_status way asked c.text.program r text status answer
+call_status way asked c text status answer =
+    call_answered (RunAnswer way asked.budget) asked c text status (λ call. run_status way asked.budget c.text.program call text status) answer
 
 pub CallAnswer-status : (way : Way) (asked : AskedCall) (bytes text : List ℕ) (status : Status) → CallAnswer way asked bytes text status → IsTrue (is_answered status)
 unfolding CallAnswer

@@ -32,7 +32,8 @@ use Rattle.um_call_answers.specs.AskedCall.{AskedCall}
 use Rattle.um_call_answers.specs.CallAnswer.{IsOutcomeReply, steps_text}
 use Rattle.um_call_answers.specs.ExecAnswer.{IsDecodeReply, IsVerifyReply, ImageRunAnswer, ByImageCall, VerifiedAnswer, DecodedAnswer, IsImageIn, AreRefused, BytesAnswer, ExecAnswer, GivesImageValue}
 use Rattle.um_call_answers.proofs.CallStatuses.{outcome_reply}
-use Rattle.um_call_answers.proofs.UniqueReplies.{one_call_reply, one_outcome_reply}
+use Rattle.um_call_answers.proofs.CallStage.{one_call_reply}
+use Rattle.um_call_answers.proofs.UniqueReplies.{one_outcome_reply}
 
 -- ---- what is known of images
 

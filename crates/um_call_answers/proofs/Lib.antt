@@ -2,11 +2,12 @@ mod AddedTexts
 mod Examples
 pub mod Lengths
 mod DifferentTexts
-mod LastCall
 mod AskedCalls
+pub mod CallStage
 pub mod CallStatuses
 pub mod UniqueReplies
 pub mod CallsDone
+pub mod CallsAnswers
 pub mod BigAnswers
 pub mod ExecAnswers
 pub mod TwinArguments

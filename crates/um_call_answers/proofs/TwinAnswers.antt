@@ -11,19 +11,16 @@ use Rattle.um_scale.specs.RescaledLiterals.{misfit_in}
 use Rattle.um_sizes.specs.declared.read.ScalesRefusal.{ScalesRefusal}
 use Rattle.um_sizes.specs.declared.read.ScalesRefusal.TheVariants as scales_refusal
 use Rattle.um_sizes.proofs.UniqueSizes.{scales_are_unique}
-use Rattle.um_run.specs.declared.call.CallRefusal.{CallRefusal}
-use Rattle.um_run.specs.declared.call.CallRefusal.TheVariants as refusal
 use Rattle.um_run.specs.Calls.{CallTree}
-use Rattle.um_run.proofs.UniqueCalls.{calls_are_unique}
 use Rattle.um_reports.specs.declared.status.Status.{Status}
 use Rattle.um_reports.specs.ScaleRefusals.{IsLiteralReply, IsMisfitReply}
-use Rattle.um_reports.proofs.ReportStatuses.{is_answered, call_reply, sizes_reply, one_sizes_reply}
+use Rattle.um_reports.proofs.ReportStatuses.{is_answered, sizes_reply, one_sizes_reply}
 use Rattle.um_front.specs.Stages.{CheckedTree, IsCheckedText}
 use Rattle.um_front.proofs.CheckedTexts.{shaped_is_formed}
 use Rattle.um_front.proofs.StageLaws.{checked_answered, checked_once}
 use Rattle.um_call_answers.specs.AskedCall.{AskedCall}
-use Rattle.um_call_answers.specs.TwinAnswer.{IsSecondReply, AreValueReplies, IsStopReply, BySecond, AreOutcomeReplies, TwinRunAnswer, misfit_among, InputsAnswer, TwinLiteralsAnswer, ByTwinCall, SizedAnswer, ByTwinSizes, IsTwinAnswer, TwinAnswer}
-use Rattle.um_call_answers.proofs.UniqueReplies.{one_call_reply}
+use Rattle.um_call_answers.specs.TwinAnswer.{IsSecondReply, AreValueReplies, IsStopReply, BySecond, AreOutcomeReplies, TwinRunAnswer, misfit_among, InputsAnswer, TwinLiteralsAnswer, SizedAnswer, ByTwinSizes, IsTwinAnswer, TwinAnswer}
+use Rattle.um_call_answers.proofs.CallStage.{call_answered, call_said_once}
 
 -- ---- statuses
 module _ (text : List ℕ) (status : Status) where
@@ -68,13 +65,10 @@ module _ (text : List ℕ) (status : Status) where
     by None answer = inputs_status budget cs p call answer
     by (Some at) reply = rw reply.1 refl
 
-  by_call_status : (cs : List Frac) (asked : AskedCall) (bytes : List ℕ) (p : ProgramTree) (r : Result CallTree CallRefusal) → ByTwinCall cs asked bytes p r text status → IsAnswered
-  by_call_status cs asked bytes p (Ok call) answer = literals_status asked.budget cs bytes p call answer
-  by_call_status cs asked bytes p (Err refused) reply = call_reply asked.texts refused text status reply
-
   sized_status : (cs : List Frac) (asked : AskedCall) (bytes : List ℕ) (c : CheckedTree) → SizedAnswer cs asked bytes c text status → IsAnswered
   unfolding SizedAnswer
-  sized_status cs asked bytes c (r, named, answer) = by_call_status cs asked bytes c.text.program r answer
+  sized_status cs asked bytes c answer =
+      call_answered (TwinLiteralsAnswer asked.budget cs bytes) asked c text status (literals_status asked.budget cs bytes c.text.program) answer
 
   by_sizes_status : (asked : AskedCall) (bytes : List ℕ) (c : CheckedTree) (r : Result (List Frac) ScalesRefusal) → ByTwinSizes asked bytes c r text status → IsAnswered
   by_sizes_status asked bytes c (Ok cs) answer = sized_status cs asked bytes c answer
@@ -144,21 +138,10 @@ module _ (text other : List ℕ) (status another : Status) where
     by None x y = inputs_one budget cs p call x y
     by (Some at) x y = (x.0 ∙ sym y.0, x.1 ∙ sym y.1)
 
-  by_call_one : (cs : List Frac) (asked : AskedCall) (bytes : List ℕ) (p : ProgramTree) (r : Result CallTree CallRefusal) → ByTwinCall cs asked bytes p r text status → ByTwinCall cs asked bytes p r other another → AreSame
-  by_call_one cs asked bytes p (Ok call) a b = literals_one asked.budget cs bytes p call a b
-  by_call_one cs asked bytes p (Err refused) a b = one_call_reply text other status another asked.texts refused a b
-
-  calls_one : (cs : List Frac) (asked : AskedCall) (bytes : List ℕ) (p : ProgramTree) (r q : Result CallTree CallRefusal) → (r ≡ q) ⊎ ((r ≡ Err refusal.NoMemory) ⊎ (q ≡ Err refusal.NoMemory))
-      → ByTwinCall cs asked bytes p r text status → ByTwinCall cs asked bytes p q other another → AreSame
-  calls_one cs asked bytes p r q (inl same) a b = by_call_one cs asked bytes p q (subst (λ x. ByTwinCall cs asked bytes p x text status) same a) b
-  calls_one cs asked bytes p r q (inr (inl wanting)) a b = absurd (subst (λ x. ByTwinCall cs asked bytes p x text status) wanting a)
-  calls_one cs asked bytes p r q (inr (inr wanting)) a b = absurd (subst (λ x. ByTwinCall cs asked bytes p x other another) wanting b)
-
   sized_one : (cs : List Frac) (asked : AskedCall) (bytes : List ℕ) (c : CheckedTree) → IsFormed c.text.program → SizedAnswer cs asked bytes c text status → SizedAnswer cs asked bytes c other another → AreSame
   unfolding SizedAnswer
-  sized_one cs asked bytes c formed (r, named, a) (q, also, b) =
-      calls_one cs asked bytes c.text.program r q
-      (calls_are_unique c.text.program c.text.abbreviations c.schemes asked.name asked.texts formed r q named also) a b
+  sized_one cs asked bytes c formed a b =
+      call_said_once (TwinLiteralsAnswer asked.budget cs bytes) asked c text status formed other another (literals_one asked.budget cs bytes c.text.program) a b
 
   by_sizes_one : (asked : AskedCall) (bytes : List ℕ) (c : CheckedTree) → IsFormed c.text.program → (r : Result (List Frac) ScalesRefusal) → ByTwinSizes asked bytes c r text status → ByTwinSizes asked bytes c r other another → AreSame
   by_sizes_one asked bytes c formed (Ok cs) a b = sized_one cs asked bytes c formed a b

@@ -10,11 +10,8 @@ use Rattle.um_scale.specs.RescaledLiterals.{rescaled_program}
 use Rattle.um_sizes.specs.declared.read.ScalesRefusal.{ScalesRefusal}
 use Rattle.um_sizes.specs.declared.read.ScalesRefusal.TheVariants as scales_refusal
 use Rattle.um_sizes.proofs.UniqueSizes.{scales_are_unique}
-use Rattle.um_run.specs.declared.call.CallRefusal.{CallRefusal}
-use Rattle.um_run.specs.declared.call.CallRefusal.TheVariants as refusal
 use Rattle.um_run.specs.Calls.{CallTree, call_values}
 use Rattle.um_run.proofs.CallLaws.{fitting_calls_are_calls}
-use Rattle.um_run.proofs.UniqueCalls.{calls_are_unique}
 use Rattle.um_reports.specs.declared.status.Status.{Status}
 use Rattle.um_reports.specs.declared.status.Status.TheVariants.{Done}
 use Rattle.um_reports.specs.ScaleRefusals.{IsLiteralReply, IsMisfitReply}
@@ -22,8 +19,10 @@ use Rattle.um_front.specs.Stages.{CheckedTree, IsCheckedText}
 use Rattle.um_front.proofs.CheckedTexts.{shaped_is_formed, checked_is_known}
 use Rattle.um_front.proofs.StageLaws.{checked_given}
 use Rattle.um_call_answers.specs.AskedCall.{AskedCall}
-use Rattle.um_call_answers.specs.TwinAnswer.{IsSecondReply, AreValueReplies, AreOutcomeReplies, TwinRunAnswer, misfit_among, rescaled_values, InputsAnswer, TwinLiteralsAnswer, ByTwinCall, SizedAnswer, ByTwinSizes, IsTwinAnswer, TwinAnswer}
-use Rattle.um_call_answers.specs.Passing.{IsAskedCall, GivesTwins}
+use Rattle.um_call_answers.specs.TwinAnswer.{IsSecondReply, AreValueReplies, AreOutcomeReplies, TwinRunAnswer, misfit_among, rescaled_values, InputsAnswer, TwinLiteralsAnswer, SizedAnswer, ByTwinSizes, IsTwinAnswer, TwinAnswer}
+use Rattle.um_call_answers.specs.OfCall.{IsAskedCall}
+use Rattle.um_call_answers.specs.Passing.{GivesTwins}
+use Rattle.um_call_answers.proofs.CallStage.{call_given}
 
 module _ (word : List ℕ) (asked : AskedCall) (c : CheckedTree) (g : GivesTwins word asked c) (text : List ℕ) (status : Status) where
   abbrev p : ProgramTree
@@ -61,20 +60,14 @@ module _ (word : List ℕ) (asked : AskedCall) (c : CheckedTree) (g : GivesTwins
       literals_done bytes answer =
           inputs_done (subst (λ (m : Option ℕ). MatchOption m (InputsAnswer asked.budget cs p call text status) (λ at. IsLiteralReply bytes at text status)) g.literals answer)
 
-      called_done : (bytes : List ℕ) (r : Result CallTree CallRefusal) → (Ok call ≡ r) ⊎ ((Ok call ≡ Err refusal.NoMemory) ⊎ (r ≡ Err refusal.NoMemory))
-          → ByTwinCall cs asked bytes p r text status → status ≡ Done
-      called_done bytes r (inl same) answer = literals_done bytes (subst (λ q. ByTwinCall cs asked bytes p q text status) (sym same) answer)
-      called_done bytes r (inr (inl wrong)) answer = absurd (cc wrong)
-      called_done bytes r (inr (inr wanting)) answer = absurd (subst (λ q. ByTwinCall cs asked bytes p q text status) wanting answer)
-
   module _ (bytes : List ℕ) (is : IsCheckedText bytes c) where
     sized_done : SizedAnswer cs asked bytes c text status → status ≡ Done
     unfolding SizedAnswer
-    sized_done (r, named, answer) =
+    sized_done answer =
         let fitting = fitting_calls_are_calls p c.text.abbreviations c.schemes asked.name asked.texts (checked_is_known bytes c is) g.fits in
         let call : CallTree = record { function = g.fits.number; inputs = g.fits.inputs; type = fitting.0 } in
-        called_done call fitting.1 g.gives g.also_gives g.arguments bytes r
-        (calls_are_unique p c.text.abbreviations c.schemes asked.name asked.texts (shaped_is_formed bytes c.text is.shaped) (Ok call) r fitting.1 named) answer
+        literals_done call fitting.1 g.gives g.also_gives g.arguments bytes
+        (call_given (TwinLiteralsAnswer asked.budget cs bytes) asked c text status (shaped_is_formed bytes c.text is.shaped) call fitting.1 answer)
 
     by_sizes_done : (r : Result (List Frac) ScalesRefusal) → (Ok cs ≡ r) ⊎ ((Ok cs ≡ Err scales_refusal.NoMemory) ⊎ (r ≡ Err scales_refusal.NoMemory)) → ByTwinSizes asked bytes c r text status → status ≡ Done
     by_sizes_done r (inl same) answer = sized_done (subst (λ q. ByTwinSizes asked bytes c q text status) (sym same) answer)

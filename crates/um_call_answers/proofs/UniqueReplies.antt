@@ -1,29 +1,24 @@
 -- The answer to a call is one.
-use Rattle.std.proofs.Common.{◌≡◌, ◌⊎◌, ℕ, ◌<◌, ◌≤◌, min, List, [], get_or, Result, Ok, Err, Some, inl, inr, sym, ap, subst, ◌∙◌, arith}
+use Rattle.std.proofs.Common.{◌≡◌, ◌⊎◌, ℕ, ◌<◌, ◌≤◌, min, List, Some, inl, inr, sym, ap, subst, ◌∙◌, arith}
 use Rattle.std.specs.declared.option.Option.{Option}
 use Rattle.std.proofs.lemmas.Bool.{cases_lt}
 use Rattle.um_parse.specs.Laws.{AnswersAreUnique}
 use Rattle.um_tree.specs.TypeTree.{TypeTree}
 use Rattle.um_tree.specs.ValueTree.{ValueTree, OutcomeTree, value_outcome, trap_outcome, budget_outcome}
 use Rattle.um_tree.specs.ProgramTree.{ProgramTree}
-use Rattle.um_value.specs.declared.stop.InputStop.{InputStop}
-use Rattle.um_value.specs.declared.stop.InputStop.TheVariants as input_stop
-use Rattle.um_run.specs.declared.call.CallRefusal.{CallRefusal}
-use Rattle.um_run.specs.declared.call.CallRefusal.TheVariants as refusal
 use Rattle.um_run.specs.Calls.{CallTree, call_values}
-use Rattle.um_run.proofs.UniqueCalls.{calls_are_unique}
 use Rattle.um_machine.specs.declared.code.Code.{Code}
 use Rattle.um_gen.specs.ProgramCode.{program_code}
 use Rattle.um_vm.specs.Counting.{EndsAfter}
 use Rattle.um_reports.specs.declared.status.Status.{Status}
-use Rattle.um_reports.specs.CallRefusals.{IsArgumentReply, IsCallReply}
 use Rattle.um_front.specs.Stages.{CheckedTree, IsCheckedText}
 use Rattle.um_front.proofs.CheckedTexts.{shaped_is_formed}
 use Rattle.um_front.proofs.StageLaws.{checked_once}
 use Rattle.um_call_answers.specs.declared.way.Way.{Way}
 use Rattle.um_call_answers.specs.declared.way.Way.TheVariants as way
 use Rattle.um_call_answers.specs.AskedCall.{AskedCall}
-use Rattle.um_call_answers.specs.CallAnswer.{CallAnswer, IsCallAnswer, ByCall, RunAnswer, AreSteps, IsOutcomeReply}
+use Rattle.um_call_answers.specs.CallAnswer.{CallAnswer, IsCallAnswer, RunAnswer, AreSteps, IsOutcomeReply}
+use Rattle.um_call_answers.proofs.CallStage.{call_said_once}
 
 -- ---- the least number of steps is one
 not_before : (code : Code) (f : ℕ) (vs : List ValueTree) (b n m : ℕ) (o : OutcomeTree) → EndsAfter code f vs b n o → EndsAfter code f vs b m o → m < n → ⊥
@@ -48,23 +43,6 @@ module _ (text other : List ℕ) (status another : Status) where
   abbrev AreSame : Type 0
   AreSame = (text ≡ other) × (status ≡ another)
 
-  -- ---- one refusal has one line
-  one_argument_reply : (index : ℕ) (word : List ℕ) (stop : InputStop) → IsArgumentReply index word stop text status → IsArgumentReply index word stop other another → AreSame
-  one_argument_reply index word (input_stop.Text at) a b = (a.0 ∙ sym b.0, a.1 ∙ sym b.1)
-  one_argument_reply index word (input_stop.Shape at) a b = (a.0 ∙ sym b.0, a.1 ∙ sym b.1)
-  one_argument_reply index word (input_stop.Names at) a b = (a.0 ∙ sym b.0, a.1 ∙ sym b.1)
-  one_argument_reply index word (input_stop.PowerRange at) a b = (a.0 ∙ sym b.0, a.1 ∙ sym b.1)
-  one_argument_reply index word input_stop.NoMemory a b = absurd a
-
-  pub one_call_reply : (texts : List (List ℕ)) (refused : CallRefusal) → IsCallReply texts refused text status → IsCallReply texts refused other another → AreSame
-  one_call_reply texts refusal.NoFunction a b = (a.0 ∙ sym b.0, a.1 ∙ sym b.1)
-  one_call_reply texts refusal.WrongCount a b = (a.0 ∙ sym b.0, a.1 ∙ sym b.1)
-  one_call_reply texts (refusal.Argument index stop) a b = one_argument_reply index (get_or texts index []) stop a b
-  one_call_reply texts refusal.Units a b = (a.0 ∙ sym b.0, a.1 ∙ sym b.1)
-  one_call_reply texts refusal.PowerRange a b = (a.0 ∙ sym b.0, a.1 ∙ sym b.1)
-  one_call_reply texts refusal.Slots a b = (a.0 ∙ sym b.0, a.1 ∙ sym b.1)
-  one_call_reply texts refusal.NoMemory a b = absurd a
-
   -- ---- one outcome has one line
   pub one_outcome_reply : (p : ProgramTree) (t : TypeTree) (o : OutcomeTree) (steps : Option ℕ) → IsOutcomeReply p t o steps text status → IsOutcomeReply p t o steps other another → AreSame
   one_outcome_reply p t (value_outcome v) steps (inl (fits, a)) (inl (also, b)) = (a.0 ∙ sym b.0, a.1 ∙ sym b.1)
@@ -82,22 +60,10 @@ module _ (text other : List ℕ) (status another : Status) where
       let here = subst (λ x. IsOutcomeReply p call.type x steps text status) same a in
       one_outcome_reply p call.type e more (subst (λ n. IsOutcomeReply p call.type e n text status) one here) b
 
-  -- ---- calls
-  by_call_one : (way : Way) (asked : AskedCall) (p : ProgramTree) (r : Result CallTree CallRefusal) → ByCall way asked p r text status → ByCall way asked p r other another → AreSame
-  by_call_one way asked p (Ok call) a b = run_one way asked.budget p call a b
-  by_call_one way asked p (Err refused) a b = one_call_reply asked.texts refused a b
-
-  calls_one : (way : Way) (asked : AskedCall) (p : ProgramTree) (r q : Result CallTree CallRefusal) → (r ≡ q) ⊎ ((r ≡ Err refusal.NoMemory) ⊎ (q ≡ Err refusal.NoMemory))
-      → ByCall way asked p r text status → ByCall way asked p q other another → AreSame
-  calls_one way asked p r q (inl same) a b = by_call_one way asked p q (subst (λ x. ByCall way asked p x text status) same a) b
-  calls_one way asked p r q (inr (inl wanting)) a b = absurd (subst (λ x. ByCall way asked p x text status) wanting a)
-  calls_one way asked p r q (inr (inr wanting)) a b = absurd (subst (λ x. ByCall way asked p x other another) wanting b)
-
   pub call_once : (way : Way) (asked : AskedCall) (bytes : List ℕ) (c : CheckedTree) → IsCheckedText bytes c → IsCallAnswer way asked c text status → IsCallAnswer way asked c other another → AreSame
   unfolding IsCallAnswer
-  call_once way asked bytes c is (r, named, a) (q, also, b) =
-      calls_one way asked c.text.program r q
-      (calls_are_unique c.text.program c.text.abbreviations c.schemes asked.name asked.texts (shaped_is_formed bytes c.text is.shaped) r q named also) a b
+  call_once way asked bytes c is a b =
+      call_said_once (RunAnswer way asked.budget) asked c text status (shaped_is_formed bytes c.text is.shaped) other another (run_one way asked.budget c.text.program) a b
 
   pub call_one : AnswersAreUnique → (way : Way) (asked : AskedCall) (bytes : List ℕ) → CallAnswer way asked bytes text status → CallAnswer way asked bytes other another → AreSame
   unfolding CallAnswer

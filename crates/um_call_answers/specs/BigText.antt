@@ -7,7 +7,7 @@ use Rattle.std.specs.Fmt.{decimal}
 abbrev pub call_text : ℕ → List ℕ → List ℕ
 call_text k variables = codes "g" ++ decimal k ++ variables
 
--- behind the first two each function is made of functions before it
+-- after the first two each function is made of functions before it
 abbrev pub later_body : ℕ → List ℕ
 later_body k =
     if k % 3 == 0 then call_text (k / 2) (codes " x y") ++ codes " * " ++ call_text (k / 3) (codes " y x")

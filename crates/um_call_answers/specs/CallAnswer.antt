@@ -1,6 +1,6 @@
 -- The answer to a call of a function: the call that the words name, how it ends, and how that is printed.
 -- Source: this project's own; the outcome is that of the meaning (`um_tree`), by whatever runner.
-use Rattle.std.specs.Prelude.{ℕ, ◌≡◌, IsTrue, List, [], ◌++◌, codes, decimal, Option, Result, Ok, Err, Some, None}
+use Rattle.std.specs.Prelude.{ℕ, ◌≡◌, IsTrue, List, [], ◌++◌, codes, decimal, Option, Some, None}
 use Rattle.um_tree.specs.TypeTree.{TypeTree}
 use Rattle.um_tree.specs.ValueTree.{ValueTree, OutcomeTree, value_outcome, trap_outcome, budget_outcome}
 use Rattle.um_tree.specs.ProgramTree.{ProgramTree}
@@ -8,8 +8,7 @@ use Rattle.um_tree.specs.Meaning.{outcome_of_call}
 use Rattle.um_show.specs.ValueText.{value_text, parts_fit}
 use Rattle.um_gen.specs.ProgramCode.{program_code}
 use Rattle.um_vm.specs.Counting.{CountsSteps}
-use Rattle.um_run.specs.declared.call.CallRefusal.{CallRefusal}
-use Rattle.um_run.specs.Calls.{CallTree, call_values, IsCallOf}
+use Rattle.um_run.specs.Calls.{CallTree, call_values}
 use Rattle.um_call_answers.specs.declared.way.Way.{Way}
 use Rattle.um_call_answers.specs.declared.way.Way.TheVariants as way
 use Rattle.um_reports.specs.declared.status.Status.{Status}
@@ -17,7 +16,8 @@ use Rattle.um_reports.specs.declared.status.Status.TheVariants.{Done, BudgetEnd}
 use Rattle.um_front.specs.Stages.{CheckedTree}
 use Rattle.um_front.specs.Staged.{OfChecked}
 use Rattle.um_call_answers.specs.AskedCall.{AskedCall}
-use Rattle.um_reports.specs.CallRefusals.{IsCallReply, IsCallRangeReply, IsTrapReply}
+use Rattle.um_call_answers.specs.OfCall.{OfCall}
+use Rattle.um_reports.specs.CallRefusals.{IsCallRangeReply, IsTrapReply}
 use Rattle.um_reports.specs.Steps.{line, IsReply, Cases}
 
 -- the line after a value, if its steps were counted
@@ -50,17 +50,9 @@ RunAnswer way budget p call text status =
     (o : OutcomeTree) × (outcome_of_call p call.function (call_values call) budget ≡ Some o)
     × (steps : Option ℕ) × AreSteps way budget p call o steps × IsOutcomeReply p call.type o steps text status
 
--- the call, or its refusal
-abbrev pub ByCall : Way → AskedCall → ProgramTree → Result CallTree CallRefusal → List ℕ → Status → Type 0
-ByCall way asked p (Ok call) text status = RunAnswer way asked.budget p call text status
-ByCall way asked p (Err refusal) text status = IsCallReply asked.texts refusal text status
-
 -- the call of the function of this name on the arguments that the texts are
 unfoldable pub IsCallAnswer : Way → AskedCall → CheckedTree → List ℕ → Status → Type 0
-IsCallAnswer way asked c text status =
-    (r : Result CallTree CallRefusal)
-    × IsCallOf c.text.program c.text.abbreviations c.schemes asked.name asked.texts r
-    × ByCall way asked c.text.program r text status
+IsCallAnswer way asked c text status = OfCall (RunAnswer way asked.budget) asked c text status
 
 -- of a text's program
 unfoldable pub CallAnswer : Way → AskedCall → List ℕ → List ℕ → Status → Type 0

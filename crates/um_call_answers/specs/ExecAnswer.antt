@@ -76,7 +76,7 @@ pub record AreRefused (bytes : List ℕ) (stop : DecodeStop) : Type 0 where
   pub small : All (λ b. b < 256) bytes
   pub refused : IsDecodeStop bytes stop
 
--- the image that the bytes are, or where they are none
+-- the image that the bytes are, or the place at which they are none
 unfoldable pub BytesAnswer : AskedCall → List ℕ → List ℕ → Status → Type 0
 BytesAnswer asked bytes text status =
     ((image : ImageTree) × IsImageIn bytes image × DecodedAnswer asked image text status)

@@ -1,6 +1,8 @@
--- What a reader must trust, in reading order: the call that is asked for, the answer to each order, and when it is done.
+-- What a reader must trust, in reading order: the call that is asked for, the answer to each order, when it is done.
 pub mod AskedCall
+pub mod OfCall
 pub mod CallAnswer
+pub mod CallsAnswer
 pub mod BigText
 pub mod BigAnswer
 pub mod TwinAnswer

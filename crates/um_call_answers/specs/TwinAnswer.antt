@@ -10,20 +10,20 @@ use Rattle.um_tree.specs.ValueTree.{OutcomeTree, value_outcome, trap_outcome, bu
 use Rattle.um_tree.specs.ProgramTree.{ProgramTree}
 use Rattle.um_tree.specs.Meaning.{outcome_of_call}
 use Rattle.um_show.specs.ValueText.{value_text, parts_fit}
-use Rattle.um_run.specs.declared.call.CallRefusal.{CallRefusal}
-use Rattle.um_run.specs.Calls.{CallTree, call_values, IsCallOf}
+use Rattle.um_run.specs.Calls.{CallTree, call_values}
 use Rattle.um_scale.specs.RescaledInputs.{input_misfit, rescaled_input}
 use Rattle.um_scale.specs.RescaledLiterals.{misfit_in, rescaled_program}
 use Rattle.um_sizes.specs.declared.read.ScalesRefusal.{ScalesRefusal}
 use Rattle.um_sizes.specs.BaseSizes.{AreScalesRead}
 use Rattle.um_reports.specs.declared.status.Status.{Status}
 use Rattle.um_reports.specs.declared.status.Status.TheVariants.{Done, BudgetEnd}
-use Rattle.um_reports.specs.CallRefusals.{IsCallReply, IsCallRangeReply}
+use Rattle.um_reports.specs.CallRefusals.{IsCallRangeReply}
 use Rattle.um_reports.specs.ScaleRefusals.{IsSizesReply, IsLiteralReply, IsMisfitReply, IsRunTrapReply}
 use Rattle.um_reports.specs.Steps.{line, IsReply, Cases}
 use Rattle.um_front.specs.Stages.{CheckedTree}
 use Rattle.um_front.specs.Staged.{OfChecked}
 use Rattle.um_call_answers.specs.AskedCall.{AskedCall}
+use Rattle.um_call_answers.specs.OfCall.{OfCall}
 
 -- ---- the outcomes
 
@@ -90,18 +90,9 @@ TwinLiteralsAnswer budget cs bytes p call text status =
 
 -- ---- the call
 
--- the call, or its refusal
-abbrev pub ByTwinCall :
-    List Frac → AskedCall → List ℕ → ProgramTree → Result CallTree CallRefusal → List ℕ → Status → Type 0
-ByTwinCall cs asked bytes p (Ok call) text status = TwinLiteralsAnswer asked.budget cs bytes p call text status
-ByTwinCall cs asked bytes p (Err refusal) text status = IsCallReply asked.texts refusal text status
-
 -- the call of the function of this name on the arguments that the texts are
 unfoldable pub SizedAnswer : List Frac → AskedCall → List ℕ → CheckedTree → List ℕ → Status → Type 0
-SizedAnswer cs asked bytes c text status =
-    (r : Result CallTree CallRefusal)
-    × IsCallOf c.text.program c.text.abbreviations c.schemes asked.name asked.texts r
-    × ByTwinCall cs asked bytes c.text.program r text status
+SizedAnswer cs asked bytes c text status = OfCall (TwinLiteralsAnswer asked.budget cs bytes) asked c text status
 
 -- ---- the sizes, which come first
 abbrev pub ByTwinSizes :

@@ -1,5 +1,6 @@
 // The answer about a generated program.
-ghost use Rattle.std.specs.Prelude.{◌≡◌, ◌≤◌, ◌<◌, ◌-◌, ◌++◌, [], ◌∷◌, IfOk, OnOk, codes, decimal, map, slice_get, string_bytes};
+ghost use Rattle.std.specs.Prelude.{◌≡◌, ◌≤◌, ◌<◌, ◌-◌, ◌++◌, [], ◌∷◌, IfOk, OnOk, codes, decimal, map};
+ghost use Rattle.std.specs.Prelude.{slice_get, string_bytes};
 ghost use Rattle.um_tree.specs.ProgramTree.{program_tree, function_tree, scheme_tree};
 ghost use Rattle.um_show.specs.SchemeText.{scheme_text as text_of_scheme};
 ghost use Rattle.um_infer.specs.Answers.{scheme_trees};
@@ -16,15 +17,15 @@ use crate::way::Way;
 use std::alloc::{AllocError, Global};
 use um_front::{Answer, Checked, Text, check};
 use um_measures::NameTable;
-use um_reports::{Reply, Status};
+use um_reports::Reply;
 use um_show::scheme_text;
 use um_tree::{Function, Name, Program, Scheme, Schemes};
 
 /// The budget of the last function's call.
 const BUDGET: u64 = 10_000_000;
 
-/// The answer about the generated program of so many functions, 1 to 2,000: its schemes are counted and its last function
-/// is called. Want of memory is the one error; each refusal is an answer. The rules are this project's own.
+/// The answer about the generated program of so many functions, 1 to 2,000: its schemes are counted and its last
+/// function is called. Want of memory is the one error; each refusal is an answer. The rules are this project's own.
 #[tactic(auto, unfolding(crate::specs::BigAnswer::BigAnswer))]
 pub fn answer_big(alloc: Global, functions: u32) -> Answer
     requires some { 1 ≤ functions }
@@ -35,23 +36,16 @@ pub fn answer_big(alloc: Global, functions: u32) -> Answer
     let text = Text::of_bytes(alloc, &bytes);
     drop(bytes);
     match check(alloc, text?) {
-        Ok(checked) => answer_generated(alloc, functions, checked),
+        Ok(checked) => {
+            let answer = answer_last(alloc, functions, &checked);
+            drop(checked);
+            answer
+        }
         Err(refused) => refused,
     }
 }
 
 /// The answer about the generated program with its schemes.
-fn answer_generated(alloc: Global, functions: u32, checked: Checked) -> Answer
-    requires some { 1 ≤ functions }
-    requires few { functions ≤ 2000 }
-    ensures { IfOk result (λ reply. IsBigAnswer functions (checked_tree checked) reply.text.items reply.status) }
-{
-    let answer = answer_last(alloc, functions, &checked);
-    drop(checked);
-    answer
-}
-
-/// The same, and the program is kept.
 #[tactic(auto, unfolding(crate::specs::BigAnswer::IsBigAnswer))]
 fn answer_last(alloc: Global, functions: u32, checked: &Checked) -> Answer
     requires some { 1 ≤ functions }
@@ -100,6 +94,7 @@ fn last_texts(alloc: Global) -> Result<Vec<String>, AllocError>
     texts.push(String::from_str(alloc, "1<s>")?)?;
     Ok(texts)
 }
+
 /// The four lines about the program, the last with the run of its last function.
 fn reply_lines(
     alloc: Global,
@@ -183,7 +178,8 @@ fn push_scheme_line(
     scheme: &Scheme,
 ) -> Result<(), AllocError>
     ensures { OnOk result (text.new.items ≡ text.old.items
-        ++ line (text_of_scheme (program_tree program.now) (function_tree function.now).name (scheme_tree scheme.now))) }
+        ++ line (text_of_scheme (program_tree program.now) (function_tree function.now).name
+        (scheme_tree scheme.now))) }
 {
     let one = scheme_text(alloc, &function.name, scheme, program)?;
     text.extend_from_slice(&one)?;

@@ -9,6 +9,7 @@ ghost use Rattle.um_call_answers.specs.AskedCall.{IsShortCall};
 ghost use Rattle.um_call_answers.specs.CallAnswer.{CallAnswer, IsCallAnswer, RunAnswer, AreSteps};
 ghost use Rattle.um_call_answers.specs.Calling.{asked_call, CanRun};
 
+use crate::asked::read_asked;
 use crate::call_words::CallWords;
 use crate::outcome::{Ended, reply_to_outcome};
 use crate::way::Way;
@@ -16,66 +17,48 @@ use std::alloc::{AllocError, Global};
 use um_eval::TreeRunner;
 use um_front::{Answer, Checked, Text, check};
 use um_gen::generate;
-use um_reports::reply_to_call;
-use um_run::{Call, argument_values, read_call};
+use um_run::{Call, argument_values};
 use um_shape::Shaped;
 use um_value::Runner;
 use um_vm::{CodeRunner, CountedOutcome};
 
 /// The answer to an order that calls a function of a text's program.
 ///
-/// The budget is at most 10,000,000, and no text of an argument is longer than 1,048,576 bytes. Want of memory is the one
-/// error; each refusal is an answer. The rules are this project's own.
+/// The budget is at most 10,000,000, and no text of an argument is longer than 1,048,576 bytes. Want of memory is the
+/// one error; each refusal is an answer. The rules are this project's own.
 #[tactic(auto, unfolding(crate::specs::CallAnswer::CallAnswer))]
 pub fn answer_call(alloc: Global, way: Way, call: &CallWords, text: Text) -> Answer
     requires call { IsShortCall (asked_call call.now) }
     ensures { IfOk result (λ reply. CallAnswer way (asked_call call.now) text reply.text.items reply.status) }
 {
     match check(alloc, text) {
-        Ok(checked) => answer_whole(alloc, way, call, checked),
+        Ok(checked) => {
+            let answer = answer_checked(alloc, way, call, &checked);
+            drop(checked);
+            answer
+        }
         Err(refused) => refused,
     }
 }
 
 /// The answer in a program with its schemes.
-fn answer_whole(alloc: Global, way: Way, call: &CallWords, checked: Checked) -> Answer
-    requires call { IsShortCall (asked_call call.now) }
-    ensures { IfOk result (λ reply. IsCallAnswer way (asked_call call.now) (checked_tree checked)
-        reply.text.items reply.status) }
-{
-    let answer = answer_checked(alloc, way, call, &checked);
-    drop(checked);
-    answer
-}
-
-/// The same, and the program is kept.
 #[tactic(auto, unfolding(crate::specs::CallAnswer::IsCallAnswer))]
 pub(crate) fn answer_checked(alloc: Global, way: Way, call: &CallWords, checked: &Checked) -> Answer
     requires call { IsShortCall (asked_call call.now) }
     ensures { IfOk result (λ reply. IsCallAnswer way (asked_call call.now) (checked_tree checked.now)
         reply.text.items reply.status) }
 {
-    let shaped = checked.shaped();
-    let schemes = checked.schemes();
-    let abbreviations = checked.abbreviations();
-    match read_call(alloc, shaped, schemes, abbreviations, call.name, call.texts) {
-        Ok(read) => answer_run(alloc, way, call.budget, shaped, read),
-        Err(refusal) => reply_to_call(alloc, call.texts, refusal),
+    match read_asked(alloc, call, checked) {
+        Ok(read) => {
+            let answer = reply_to_run(alloc, way, call.budget, checked.shaped(), &read);
+            drop(read);
+            answer
+        }
+        Err(refused) => refused,
     }
 }
 
 /// How a call that has a type ends, with its value at its type.
-fn answer_run(alloc: Global, way: Way, budget: u64, shaped: &Shaped, call: Call) -> Answer
-    requires can { CanRun budget (program_tree shaped.now) (call_tree call) }
-    ensures { IfOk result (λ reply. RunAnswer way budget (program_tree shaped.now) (call_tree call)
-        reply.text.items reply.status) }
-{
-    let reply = reply_to_run(alloc, way, budget, shaped, &call);
-    drop(call);
-    reply
-}
-
-/// The same, and the call is kept.
 #[tactic(auto, unfolding(crate::specs::CallAnswer::RunAnswer))]
 fn reply_to_run(alloc: Global, way: Way, budget: u64, shaped: &Shaped, call: &Call) -> Answer
     requires can { CanRun budget (program_tree shaped.now) (call_tree call.now) }

@@ -1,7 +1,7 @@
 // The answer to a call of an image.
 ghost use Rattle.std.specs.Prelude.{◌≡◌, ◌<◌, ◌≤◌, IfOk, length, slice_get, Some};
 ghost use Rattle.um_tree.specs.ValueTree.{outcome_tree};
-ghost use Rattle.um_verify.specs.ImageTree.{HeadTree, head_tree, image_tree, HasForm};
+ghost use Rattle.um_verify.specs.ImageTree.{HeadTree, image_tree, HasForm};
 ghost use Rattle.um_image.specs.ProgramImage.{type_of_shape as plain_type_of};
 ghost use Rattle.um_run.specs.ImageCalls.{image_call_tree, image_program};
 ghost use Rattle.um_run.specs.ImageLaws.{IsShapedCall};
@@ -21,12 +21,12 @@ use um_run::{ImageCall, argument_values, program_of, read_image_call};
 use um_verifier::{Verified, VerifyStop, verify};
 use um_verify::Image;
 
-/// The answer to `exec` about the bytes that were read: if they are a verified image, the function of the call is called
-/// on its arguments.
+/// The answer to `exec` about the bytes that were read: if they are a verified image, the function of the call is
+/// called on its arguments.
 ///
 /// There are at most 16,777,216 bytes, the budget is at most 10,000,000, and no text of an argument is longer than
-/// 1,048,576 bytes. A number may be written at unit 1 alone, and is printed there. Want of memory is the one error; each
-/// refusal is an answer. The rules are this project's own.
+/// 1,048,576 bytes. A number may be written at unit 1 alone, and is printed there. Want of memory is the one error;
+/// each refusal is an answer. The rules are this project's own.
 #[tactic(auto, unfolding(crate::specs::ExecAnswer::BytesAnswer))]
 pub fn answer_exec(alloc: Global, call: &CallWords, bytes: &[u8]) -> Answer
     requires call { IsShortCall (asked_call call.now) }
@@ -50,7 +50,11 @@ fn answer_decoded(alloc: Global, call: &CallWords, image: Image) -> Answer
         reply.text.items reply.status) }
 {
     match verify(alloc, image) {
-        Ok(verified) => answer_whole(alloc, call, verified),
+        Ok(verified) => {
+            let answer = answer_verified(alloc, call, &verified);
+            drop(verified);
+            answer
+        }
         Err(VerifyStop::Head { index }) => reply_to_bad_head(alloc, index),
         Err(VerifyStop::Code { at }) => reply_to_bad_code(alloc, at),
         Err(VerifyStop::NoMemory) => Err(AllocError),
@@ -58,18 +62,6 @@ fn answer_decoded(alloc: Global, call: &CallWords, image: Image) -> Answer
 }
 
 /// The answer about a verified image.
-fn answer_whole(alloc: Global, call: &CallWords, image: Verified) -> Answer
-    requires call { IsShortCall (asked_call call.now) }
-    requires few { length (image_tree image).records ≤ 16777216 }
-    ensures { IfOk result (λ reply. VerifiedAnswer (asked_call call.now) (image_tree image)
-        reply.text.items reply.status) }
-{
-    let answer = answer_verified(alloc, call, &image);
-    drop(image);
-    answer
-}
-
-/// The same, and the image is kept.
 #[tactic(auto, unfolding(crate::specs::ExecAnswer::VerifiedAnswer))]
 fn answer_verified(alloc: Global, call: &CallWords, image: &Verified) -> Answer
     requires call { IsShortCall (asked_call call.now) }
@@ -78,24 +70,16 @@ fn answer_verified(alloc: Global, call: &CallWords, image: &Verified) -> Answer
         reply.text.items reply.status) }
 {
     match read_image_call(alloc, image.image(), call.name, call.texts) {
-        Ok(read) => answer_run(alloc, call.budget, image, read),
+        Ok(read) => {
+            let answer = reply_to_run(alloc, call.budget, image, &read);
+            drop(read);
+            answer
+        }
         Err(refusal) => reply_to_call(alloc, call.texts, refusal),
     }
 }
 
 /// How a call that can be run ends, with its value at unit 1.
-fn answer_run(alloc: Global, budget: u64, image: &Verified, call: ImageCall) -> Answer
-    requires shaped { IsShapedCall (image_tree image.now) (image_call_tree call) }
-    requires small { budget ≤ 10000000 }
-    ensures { IfOk result (λ reply. ImageRunAnswer budget (image_tree image.now) (image_call_tree call)
-        reply.text.items reply.status) }
-{
-    let reply = reply_to_run(alloc, budget, image, &call);
-    drop(call);
-    reply
-}
-
-/// The same, and the call is kept.
 #[tactic(auto, unfolding(crate::specs::ExecAnswer::ImageRunAnswer))]
 fn reply_to_run(alloc: Global, budget: u64, image: &Verified, call: &ImageCall) -> Answer
     requires shaped { IsShapedCall (image_tree image.now) (image_call_tree call.now) }

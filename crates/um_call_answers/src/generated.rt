@@ -1,7 +1,8 @@
 // The text of a large program.
 ghost use Rattle.std.specs.Prelude.{◌≡◌, ◌≤◌, ◌<◌, ◌++◌, length, IfOk, OnOk};
 ghost use Rattle.std.specs.Fmt.{decimal};
-ghost use Rattle.um_call_answers.specs.BigText.{big_text as program_text, function_line, body_text, later_body, call_text};
+ghost use Rattle.um_call_answers.specs.BigText.{big_text as program_text, function_line, body_text, later_body};
+ghost use Rattle.um_call_answers.specs.BigText.{call_text};
 
 use std::alloc::{AllocError, Global};
 

@@ -1,8 +1,8 @@
 //! Laws of answers. A call does nothing: what it ensures is the law.
 ghost use Rattle.um_call_answers.specs.Laws.{ExecAnswersAreUnique, ExecAnswersAreDone};
 
-/// A call of an image is answered in one way, and done where the bytes are a verified image's of which the words call a
-/// function that gives a value within the budget.
+/// A call of an image is answered in one way, and it is done if the bytes are a verified image's and the function that
+/// is called gives a value within the budget.
 pub fn answers_of_images()
     ensures unique { ExecAnswersAreUnique }
     ensures done { ExecAnswersAreDone }

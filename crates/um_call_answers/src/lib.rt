@@ -1,5 +1,5 @@
-//! The answers to orders that call a function: by its program's code or its tree, in two sizes of the base units, of an
-//! image, and of a generated program.
+//! The answers to orders that call a function: by its program's code or its tree, in two sizes of the base units, many
+//! times, of an image, and of a generated program.
 //!
 //! ```
 //! let call = CallWords { budget: 100, name: "mean", texts: &texts };
@@ -8,9 +8,12 @@
 #![tactic(auto)]
 
 mod arguments;
+mod asked;
 mod big;
 mod call;
 mod call_words;
+mod calls;
+mod compiled;
 mod exec;
 mod generated;
 pub mod laws;
@@ -19,10 +22,14 @@ mod twin;
 mod twin_outcome;
 mod way;
 
+pub use asked::read_asked;
 pub use big::answer_big;
 pub use call::answer_call;
 pub use call_words::CallWords;
+pub use calls::answer_calls;
+pub use compiled::Compiled;
 pub use exec::answer_exec;
 pub use generated::big_text;
+pub use outcome::reply_to_value;
 pub use twin::answer_twin;
 pub use way::Way;

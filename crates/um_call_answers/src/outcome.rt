@@ -46,7 +46,7 @@ pub(crate) fn reply_to_outcome(alloc: Global, program: &Program, ended: &Ended, 
 }
 
 /// The line of a value at the type, with its steps on a line after it.
-fn reply_to_value(
+pub fn reply_to_value(
     alloc: Global,
     program: &Program,
     value: &Value,

@@ -1,5 +1,5 @@
 // The answer about a call that is made twice, in two sizes of the base units.
-ghost use Rattle.std.specs.Prelude.{◌≡◌, IfOk, IsTrue, None, Some, map};
+ghost use Rattle.std.specs.Prelude.{◌≡◌, IfOk, IsTrue, Some, map};
 ghost use Rattle.um_tree.specs.ProgramTree.{program_tree};
 ghost use Rattle.um_tree.specs.ValueTree.{input_tree, outcome_tree};
 ghost use Rattle.um_tree.specs.Meaning.{outcome_of_call};
@@ -16,13 +16,14 @@ ghost use Rattle.um_call_answers.specs.TwinAnswer.{TwinAnswer, IsTwinAnswer, Siz
 ghost use Rattle.um_call_answers.specs.TwinAnswer.{InputsAnswer, TwinRunAnswer, rescaled_values};
 
 use crate::arguments::{ArgumentStop, rescaled_arguments};
+use crate::asked::read_asked;
 use crate::call_words::CallWords;
 use crate::twin_outcome::reply_to_outcomes;
 use std::alloc::{AllocError, Global};
 use um_front::{Answer, Checked, Text, check};
 use um_gen::generate;
-use um_reports::{reply_to_call, reply_to_literal, reply_to_misfit, reply_to_sizes};
-use um_run::{Call, argument_values, read_call};
+use um_reports::{reply_to_literal, reply_to_misfit, reply_to_sizes};
+use um_run::{Call, argument_values};
 use um_scale::{ScaleStop, Scales, Twin, rescale_program, twin};
 use um_shape::{Shaped, shape};
 use um_sizes::read_scales;
@@ -41,8 +42,8 @@ pub(crate) struct TwinCall<'a> {
 /// The answer to an order that calls a function of a text's program twice, the second time in the sizes that the word
 /// states.
 ///
-/// The budget is at most 10,000,000, and no text of an argument is longer than 1,048,576 bytes. Want of memory is the one
-/// error; each refusal is an answer. How programs and inputs are rescaled is Kennedy's (1997).
+/// The budget is at most 10,000,000, and no text of an argument is longer than 1,048,576 bytes. Want of memory is the
+/// one error; each refusal is an answer. How programs and inputs are rescaled is Kennedy's (1997).
 #[tactic(auto, unfolding(crate::specs::TwinAnswer::TwinAnswer))]
 pub fn answer_twin(alloc: Global, sizes: &str, call: &CallWords, text: Text) -> Answer
     requires call { IsShortCall (asked_call call.now) }
@@ -50,24 +51,16 @@ pub fn answer_twin(alloc: Global, sizes: &str, call: &CallWords, text: Text) -> 
     ensures { IfOk result (λ reply. TwinAnswer sizes.now (asked_call call.now) text reply.text.items reply.status) }
 {
     match check(alloc, text) {
-        Ok(checked) => answer_whole(alloc, sizes, call, checked),
+        Ok(checked) => {
+            let answer = answer_checked(alloc, sizes, call, &checked);
+            drop(checked);
+            answer
+        }
         Err(refused) => refused,
     }
 }
 
 /// The answer in a program with its schemes.
-fn answer_whole(alloc: Global, sizes: &str, call: &CallWords, checked: Checked) -> Answer
-    requires call { IsShortCall (asked_call call.now) }
-    requires stated { IsTrue (is_scales sizes.now) }
-    ensures { IfOk result (λ reply. IsTwinAnswer sizes.now (asked_call call.now) checked.text.text.bytes.items
-        (checked_tree checked) reply.text.items reply.status) }
-{
-    let answer = answer_checked(alloc, sizes, call, &checked);
-    drop(checked);
-    answer
-}
-
-/// The same, and the program is kept.
 #[tactic(auto, unfolding(crate::specs::TwinAnswer::IsTwinAnswer))]
 fn answer_checked(alloc: Global, sizes: &str, call: &CallWords, checked: &Checked) -> Answer
     requires call { IsShortCall (asked_call call.now) }
@@ -76,24 +69,16 @@ fn answer_checked(alloc: Global, sizes: &str, call: &CallWords, checked: &Checke
         (checked_tree checked.now) reply.text.items reply.status) }
 {
     match read_scales(alloc, sizes, checked.program()) {
-        Ok(scales) => answer_sized(alloc, call, checked, scales),
+        Ok(scales) => {
+            let answer = answer_in_sizes(alloc, call, checked, &scales);
+            drop(scales);
+            answer
+        }
         Err(refusal) => reply_to_sizes(alloc, refusal),
     }
 }
 
 /// The answer by the sizes of the base units.
-fn answer_sized(alloc: Global, call: &CallWords, checked: &Checked, scales: Scales) -> Answer
-    requires call { IsShortCall (asked_call call.now) }
-    requires positive { AreSizes scales }
-    ensures { IfOk result (λ reply. SizedAnswer scales (asked_call call.now) checked.now.text.text.bytes.items
-        (checked_tree checked.now) reply.text.items reply.status) }
-{
-    let answer = answer_in_sizes(alloc, call, checked, &scales);
-    drop(scales);
-    answer
-}
-
-/// The same, and the sizes are kept.
 #[tactic(auto, unfolding(crate::specs::TwinAnswer::SizedAnswer))]
 fn answer_in_sizes(alloc: Global, call: &CallWords, checked: &Checked, scales: &Scales) -> Answer
     requires call { IsShortCall (asked_call call.now) }
@@ -101,12 +86,9 @@ fn answer_in_sizes(alloc: Global, call: &CallWords, checked: &Checked, scales: &
     ensures { IfOk result (λ reply. SizedAnswer scales.now (asked_call call.now) checked.now.text.text.bytes.items
         (checked_tree checked.now) reply.text.items reply.status) }
 {
-    let shaped = checked.shaped();
-    let schemes = checked.schemes();
-    let abbreviations = checked.abbreviations();
-    match read_call(alloc, shaped, schemes, abbreviations, call.name, call.texts) {
+    match read_asked(alloc, call, checked) {
         Ok(read) => answer_read(alloc, checked, call.budget, scales, read),
-        Err(refusal) => reply_to_call(alloc, call.texts, refusal),
+        Err(refused) => refused,
     }
 }
 
@@ -152,23 +134,14 @@ fn answer_rescaled(alloc: Global, both: &TwinCall, rescaled: Program) -> Answer
         (program_tree both.now.shaped.now) (call_tree both.now.call.now) reply.text.items reply.status) }
 {
     match shape(alloc, rescaled) {
-        Ok(other) => answer_shaped(alloc, both, other),
+        Ok(other) => {
+            let answer = answer_inputs(alloc, both, &other);
+            drop(other);
+            answer
+        }
         // It has the shapes of the program, so memory alone can be wanting.
         Err(_) => Err(AllocError),
     }
-}
-
-/// The answer beside the rescaled program with its shapes.
-fn answer_shaped(alloc: Global, both: &TwinCall, other: Shaped) -> Answer
-    requires can { CanTwin both.now.budget both.now.scales.now (program_tree both.now.shaped.now)
-        (call_tree both.now.call.now) }
-    requires other { IsOther both.now.scales.now (program_tree both.now.shaped.now) (program_tree other) }
-    ensures { IfOk result (λ reply. InputsAnswer both.now.budget both.now.scales.now
-        (program_tree both.now.shaped.now) (call_tree both.now.call.now) reply.text.items reply.status) }
-{
-    let answer = answer_inputs(alloc, both, &other);
-    drop(other);
-    answer
 }
 
 /// The answer by the arguments in other sizes, or the first that doesn't fit.

@@ -33,7 +33,7 @@ use Rattle.um_parse.specs.Parsed.{IsRead, LimitAt, Parsed}
 use Rattle.um_reports.specs.declared.status.Status.{Status}
 use Rattle.um_reports.specs.Refusals.{IsTextReply, IsParseReply, IsNameReply, IsShapeReply}
 use Rattle.um_front.specs.Stages.{IsReadText, ShapedTree, IsShapedText, CheckedTree, IsCheckedText}
-use Rattle.um_front.specs.Refused.{IsTooLong, HasNoTokens, HasNoTree, HasNoNames, HasNoShapes, IsUntypedReply, HasNoSchemes, IsUnread, IsUnshaped, IsUnchecked}
+use Rattle.um_front.specs.Refused.{IsUntypedReply, IsUnread, IsUnshaped, IsUnchecked}
 
 -- ---- a text with tokens isn't refused
 

@@ -1,5 +1,5 @@
 -- The statuses with which texts are refused.
-use Rattle.std.proofs.Common.{◌≡◌, ℕ, List, Bool, true, false, IsTrue, refl, sym, subst, ◌∙◌, inl, inr}
+use Rattle.std.proofs.Common.{ℕ, List, Bool, true, false, IsTrue, refl, inl, inr}
 use Rattle.um_syntax.specs.declared.token.TextStop.{TextStop}
 use Rattle.um_syntax.specs.declared.token.TextStop.TheVariants as text_stop
 use Rattle.um_types.specs.declared.parse.ParseStop.{ParseStop}

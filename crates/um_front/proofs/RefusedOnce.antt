@@ -1,5 +1,5 @@
 -- A text is refused in one way.
-use Rattle.std.proofs.Common.{◌≡◌, ℕ, ◌<◌, ◌≤◌, ◌⊎◌, List, [], length, Ok, Err, Some, None, codes, inl, inr, sym, subst, ◌∙◌, arith, slice_get}
+use Rattle.std.proofs.Common.{◌≡◌, ℕ, ◌<◌, ◌≤◌, ◌⊎◌, List, [], length, Ok, Err, Some, codes, inl, inr, sym, subst, ◌∙◌, arith}
 use Rattle.std.specs.declared.option.Option.{Option}
 use Rattle.std.specs.Str.{chars, IsUtf8, IsValidUpTo}
 use Rattle.std.proofs.lemmas.Bool.{cases_lt}
@@ -14,7 +14,7 @@ use Rattle.um_syntax.proofs.Whole.{unique_tokens, unique_fault}
 use Rattle.um_types.specs.declared.parse.LimitKind.TheVariants as limit
 use Rattle.um_types.specs.declared.parse.ParseStop.{ParseStop}
 use Rattle.um_types.specs.declared.parse.ParseStop.TheVariants as parse_stop
-use Rattle.um_parse.specs.Parsed.{IsRead, Parsed}
+use Rattle.um_parse.specs.Parsed.{Parsed}
 use Rattle.um_parse.specs.Laws.{AreSameAnswer, AnswersAreUnique}
 use Rattle.um_measures.specs.declared.stop.NameStop.{NameStop}
 use Rattle.um_measures.specs.declared.stop.NameStop.TheVariants as name_stop
@@ -32,7 +32,7 @@ use Rattle.um_reports.specs.declared.status.Status.{Status}
 use Rattle.um_reports.specs.declared.status.Status.TheVariants.{Utf8, Lexical, Limit, Names, PowerRange, Shape}
 use Rattle.um_reports.specs.Steps.{IsReply}
 use Rattle.um_reports.specs.Refusals.{placed, limit_label, IsTextReply, IsParseReply, IsNameReply, IsShapeReply}
-use Rattle.um_front.specs.Stages.{IsReadText, ShapedTree}
+use Rattle.um_front.specs.Stages.{ShapedTree}
 use Rattle.um_front.specs.Refused.{OfFunction, IsUntypedReply, IsUnread, IsUnshaped, IsUnchecked}
 use Rattle.um_front.proofs.Excluded.{not_utf8, text_not_refused, not_faulty, one_read, one_shaped, read_is_not_refused, shaped_is_not_refused}
 

@@ -8,7 +8,7 @@ use Rattle.um_front.specs.Stages.{IsReadText, ShapedTree, IsShapedText, CheckedT
 use Rattle.um_front.specs.Staged.{OfRead, OfShaped, OfChecked}
 use Rattle.um_front.proofs.Excluded.{one_read, one_shaped, one_checked, read_is_not_refused, shaped_is_not_refused, checked_is_not_refused}
 use Rattle.um_front.proofs.RefusedOnce.{unread_once, unshaped_once, unchecked_once}
-use Rattle.um_front.proofs.RefusalStatuses.{is_early, is_refusal, unread_answered, unshaped_answered, unchecked_answered, unread_early, unshaped_early, unchecked_refusal}
+use Rattle.um_front.proofs.RefusalStatuses.{is_refusal, unread_answered, unshaped_answered, unchecked_answered, unchecked_refusal}
 
 -- ---- of the program as it is written
 module _ (Says : List DeclSyntax → List ℕ → Status → Type 0) (bytes text : List ℕ) (status : Status) where

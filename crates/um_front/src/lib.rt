@@ -25,7 +25,7 @@ pub use parts::{CheckedParts, ReadText, ShapedText};
 pub use reading::Reading;
 pub use shaping::shape_text;
 pub use text::{Text, TextParts};
-pub use tree::read;
+pub use tree::{read, read_tokens};
 
 /// The answer to an order, or want of memory.
 pub type Answer = Result<um_reports::Reply, std::alloc::AllocError>;

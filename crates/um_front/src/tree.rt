@@ -29,9 +29,9 @@ pub fn read(alloc: Global, text: Text) -> Result<ReadText, Answer>
     }
 }
 
-/// The program of a text with these tokens.
+/// The program of a text with these tokens, or the answer to tokens that are none.
 #[tactic(auto, unfolding(crate::specs::Refused::IsUnread))]
-fn read_tokens(alloc: Global, bytes: Vec<u8>, tokens: Tokens) -> Result<ReadText, Answer>
+pub fn read_tokens(alloc: Global, bytes: Vec<u8>, tokens: Tokens) -> Result<ReadText, Answer>
     requires tokens { IsTextAnswer bytes.items (Ok tokens) }
     requires short { length bytes.items ≤ 1048576 }
     ensures bytes { IfOk result (λ read. read.bytes.items ≡ bytes.items) }

@@ -10,18 +10,20 @@ use Rattle.std.proofs.lemmas.Str.Parse.{numerals_by_value, tells_all_ascii_digit
 use Rattle.std.proofs.lemmas.List.Elements.{All-nil, All-cons}
 use Rattle.um_sizes.specs.ScaleWords.{is_scales}
 use Rattle.um_orders.specs.declared.order.Order.{Order}
-use Rattle.um_orders.specs.declared.order.Order.TheVariants.{Types, Code, Fmt, Run, Steps, Eval, Conform, Rescale, Twin, Big, Prove, Image, Exec}
+use Rattle.um_orders.specs.declared.order.Order.TheVariants.{Types, Code, Fmt, Tidy, Run, Steps, Eval, Trace, Conform, Rescale, Twin, Big, Prove, Image, Exec, Calls}
 use Rattle.um_orders.specs.declared.order.Intake.TheVariants.{Generated, Text, Bytes}
+use Rattle.um_orders.specs.declared.order.BytesOrder.{BytesOrder}
+use Rattle.um_orders.specs.declared.order.BytesOrder.TheVariants as bytes
 use Rattle.um_orders.specs.declared.order.TextOrder.{TextOrder}
 use Rattle.um_orders.specs.declared.order.TextOrder.TheVariants as text
-use Rattle.um_orders.specs.Orders.{is_short, are_few_digits, budget_of, states_count, count_of, big_order, rescale_order, order_of_two, order_alone, call_order, order_of_three, twin_order, order_of_many, longer_order, order_by_count, order_of, intake_of, order_about}
+use Rattle.um_orders.specs.Orders.{is_short, are_few_digits, budget_of, states_count, count_of, big_order, rescale_order, calls_order, order_of_two, order_alone, call_order, order_of_three, twin_order, order_of_many, longer_order, order_by_count, order_of, intake_of, order_about, order_about_bytes}
 
 pub both : (a b : Bool) → (a && b) ≡ true → (a ≡ true) × (b ≡ true)
 both true b e = (refl, e)
 both false b e = absurd cc
 
 -- ---- each word is short, and the words have the form of their count
-named_by_count : (words : List (List ℕ)) (o : Order) → order_of words ≡ Some o → (list_all is_short words ≡ true) × (order_by_count words ≡ Some o)
+pub named_by_count : (words : List (List ℕ)) (o : Order) → order_of words ≡ Some o → (list_all is_short words ≡ true) × (order_by_count words ≡ Some o)
 unfolding order_of
 named_by_count words o e = by (list_all is_short words) refl e where
   by : (t : Bool) → list_all is_short words ≡ t → (if t then order_by_count words else None) ≡ Some o → (list_all is_short words ≡ true) × (order_by_count words ≡ Some o)
@@ -98,42 +100,48 @@ abbrev pub AreWordsOf : List (List ℕ) → Order → Type 0
 AreWordsOf words (Run b) = (3 ≤ length words) × (b ≤ 10000000)
 AreWordsOf words (Steps b) = (3 ≤ length words) × (b ≤ 10000000)
 AreWordsOf words (Eval b) = (3 ≤ length words) × (b ≤ 10000000)
+AreWordsOf words (Trace b) = (3 ≤ length words) × (b ≤ 10000000)
 AreWordsOf words Conform = 3 ≤ length words
 AreWordsOf words Rescale = (2 ≤ length words) × IsTrue (is_scales (get_or words 1 []))
 AreWordsOf words (Twin b) = (4 ≤ length words) × (b ≤ 10000000) × IsTrue (is_scales (get_or words 2 []))
 AreWordsOf words (Big n) = (1 ≤ n) × (n ≤ 2000)
 AreWordsOf words (Exec b) = (3 ≤ length words) × (b ≤ 10000000)
+AreWordsOf words (Calls b) = b ≤ 10000000
 AreWordsOf words order = Unit {0}
 
 words_alone : (word : List ℕ) (o : Order) → order_alone word ≡ Some o → AreWordsOf (word ∷ []) o
-words_alone word o e = by (bytes_eq word (codes "types")) (bytes_eq word (codes "code")) (bytes_eq word (codes "fmt")) (bytes_eq word (codes "prove")) (bytes_eq word (codes "image")) e where
-  by : (s t u v w : Bool) → (if s then Some Types else if t then Some Code else if u then Some Fmt else if v then Some Prove else if w then Some Image else None) ≡ Some o → AreWordsOf (word ∷ []) o
-  by true t u v w named = let same : Types ≡ o = cc named in subst (AreWordsOf (word ∷ [])) same tt
-  by false true u v w named = let same : Code ≡ o = cc named in subst (AreWordsOf (word ∷ [])) same tt
-  by false false true v w named = let same : Fmt ≡ o = cc named in subst (AreWordsOf (word ∷ [])) same tt
-  by false false false true w named = let same : Prove ≡ o = cc named in subst (AreWordsOf (word ∷ [])) same tt
-  by false false false false true named = let same : Image ≡ o = cc named in subst (AreWordsOf (word ∷ [])) same tt
-  by false false false false false named = absurd (cc named)
+words_alone word o e = by (bytes_eq word (codes "types")) (bytes_eq word (codes "code")) (bytes_eq word (codes "fmt")) (bytes_eq word (codes "tidy")) (bytes_eq word (codes "prove")) (bytes_eq word (codes "image")) e where
+  by : (s t u x v w : Bool) → (if s then Some Types else if t then Some Code else if u then Some Fmt else if x then Some Tidy else if v then Some Prove else if w then Some Image else None) ≡ Some o → AreWordsOf (word ∷ []) o
+  by true t u x v w named = let same : Types ≡ o = cc named in subst (AreWordsOf (word ∷ [])) same tt
+  by false true u x v w named = let same : Code ≡ o = cc named in subst (AreWordsOf (word ∷ [])) same tt
+  by false false true x v w named = let same : Fmt ≡ o = cc named in subst (AreWordsOf (word ∷ [])) same tt
+  by false false false true v w named = let same : Tidy ≡ o = cc named in subst (AreWordsOf (word ∷ [])) same tt
+  by false false false false true w named = let same : Prove ≡ o = cc named in subst (AreWordsOf (word ∷ [])) same tt
+  by false false false false false true named = let same : Image ≡ o = cc named in subst (AreWordsOf (word ∷ [])) same tt
+  by false false false false false false named = absurd (cc named)
 
 words_of_two : (word second : List ℕ) (o : Order) → order_of_two word second ≡ Some o → AreWordsOf (word ∷ second ∷ []) o
-words_of_two word second o e = by (bytes_eq word (codes "big")) (count_of second) refl (bytes_eq word (codes "rescale")) (is_scales second) refl e where
-  by : (s : Bool) (count : Option ℕ) → count_of second ≡ count → (t stated : Bool) → is_scales second ≡ stated
-      → (if s then big_order count else if t then rescale_order stated else None) ≡ Some o → AreWordsOf (word ∷ second ∷ []) o
-  by true (Some n) is t stated so named = let same : Big n ≡ o = cc named in subst (AreWordsOf (word ∷ second ∷ [])) same (count_within second n is)
-  by true None is t stated so named = absurd (cc named)
-  by false count is true true so named = let same : Rescale ≡ o = cc named in subst (AreWordsOf (word ∷ second ∷ [])) same (omega arith, so)
-  by false count is true false so named = absurd (cc named)
-  by false count is false stated so named = absurd (cc named)
+words_of_two word second o e = by (bytes_eq word (codes "big")) (count_of second) refl (bytes_eq word (codes "rescale")) (is_scales second) refl (bytes_eq word (codes "calls")) (budget_of second) refl e where
+  by : (s : Bool) (count : Option ℕ) → count_of second ≡ count → (t stated : Bool) → is_scales second ≡ stated → (u : Bool) (limit : Option ℕ) → budget_of second ≡ limit
+      → (if s then big_order count else if t then rescale_order stated else if u then calls_order limit else None) ≡ Some o → AreWordsOf (word ∷ second ∷ []) o
+  by true (Some n) is t stated so u limit within named = let same : Big n ≡ o = cc named in subst (AreWordsOf (word ∷ second ∷ [])) same (count_within second n is)
+  by true None is t stated so u limit within named = absurd (cc named)
+  by false count is true true so u limit within named = let same : Rescale ≡ o = cc named in subst (AreWordsOf (word ∷ second ∷ [])) same (omega arith, so)
+  by false count is true false so u limit within named = absurd (cc named)
+  by false count is false stated so true (Some n) within named = let same : Calls n ≡ o = cc named in subst (AreWordsOf (word ∷ second ∷ [])) same (within_limit second n within)
+  by false count is false stated so true None within named = absurd (cc named)
+  by false count is false stated so false limit within named = absurd (cc named)
 
 words_of_call : (words : List (List ℕ)) (word : List ℕ) (limit : Option ℕ) (o : Order) → 3 ≤ length words → ((n : ℕ) → limit ≡ Some n → n ≤ 10000000) → call_order word limit ≡ Some o → AreWordsOf words o
 words_of_call words word None o many within e = absurd (cc e)
-words_of_call words word (Some n) o many within e = by (bytes_eq word (codes "run")) (bytes_eq word (codes "steps")) (bytes_eq word (codes "eval")) (bytes_eq word (codes "exec")) e where
-  by : (s t u v : Bool) → (if s then Some (Run n) else if t then Some (Steps n) else if u then Some (Eval n) else if v then Some (Exec n) else None) ≡ Some o → AreWordsOf words o
-  by true t u v named = let same : Run n ≡ o = cc named in subst (AreWordsOf words) same (many, within n refl)
-  by false true u v named = let same : Steps n ≡ o = cc named in subst (AreWordsOf words) same (many, within n refl)
-  by false false true v named = let same : Eval n ≡ o = cc named in subst (AreWordsOf words) same (many, within n refl)
-  by false false false true named = let same : Exec n ≡ o = cc named in subst (AreWordsOf words) same (many, within n refl)
-  by false false false false named = absurd (cc named)
+words_of_call words word (Some n) o many within e = by (bytes_eq word (codes "run")) (bytes_eq word (codes "steps")) (bytes_eq word (codes "eval")) (bytes_eq word (codes "trace")) (bytes_eq word (codes "exec")) e where
+  by : (s t u x v : Bool) → (if s then Some (Run n) else if t then Some (Steps n) else if u then Some (Eval n) else if x then Some (Trace n) else if v then Some (Exec n) else None) ≡ Some o → AreWordsOf words o
+  by true t u x v named = let same : Run n ≡ o = cc named in subst (AreWordsOf words) same (many, within n refl)
+  by false true u x v named = let same : Steps n ≡ o = cc named in subst (AreWordsOf words) same (many, within n refl)
+  by false false true x v named = let same : Eval n ≡ o = cc named in subst (AreWordsOf words) same (many, within n refl)
+  by false false false true v named = let same : Trace n ≡ o = cc named in subst (AreWordsOf words) same (many, within n refl)
+  by false false false false true named = let same : Exec n ≡ o = cc named in subst (AreWordsOf words) same (many, within n refl)
+  by false false false false false named = absurd (cc named)
 
 words_of_three : (word second third : List ℕ) (o : Order) → order_of_three word (budget_of second) ≡ Some o → AreWordsOf (word ∷ second ∷ third ∷ []) o
 words_of_three word second third o e = by (bytes_eq word (codes "conform")) e where
@@ -173,9 +181,11 @@ pub order_of_text : (o : Order) (t : TextOrder) → intake_of o ≡ Text t → o
 order_of_text Types t takes = let same : text.Types ≡ t = cc takes in ap order_about same
 order_of_text Code t takes = let same : text.Code ≡ t = cc takes in ap order_about same
 order_of_text Fmt t takes = let same : text.Fmt ≡ t = cc takes in ap order_about same
+order_of_text Tidy t takes = let same : text.Tidy ≡ t = cc takes in ap order_about same
 order_of_text (Run b) t takes = let same : text.Run b ≡ t = cc takes in ap order_about same
 order_of_text (Steps b) t takes = let same : text.Steps b ≡ t = cc takes in ap order_about same
 order_of_text (Eval b) t takes = let same : text.Eval b ≡ t = cc takes in ap order_about same
+order_of_text (Trace b) t takes = let same : text.Trace b ≡ t = cc takes in ap order_about same
 order_of_text Conform t takes = let same : text.Conform ≡ t = cc takes in ap order_about same
 order_of_text Rescale t takes = let same : text.Rescale ≡ t = cc takes in ap order_about same
 order_of_text (Twin b) t takes = let same : text.Twin b ≡ t = cc takes in ap order_about same
@@ -183,36 +193,43 @@ order_of_text Prove t takes = let same : text.Prove ≡ t = cc takes in ap order
 order_of_text Image t takes = let same : text.Image ≡ t = cc takes in ap order_about same
 order_of_text (Big k) t takes = absurd (cc takes)
 order_of_text (Exec b) t takes = absurd (cc takes)
+order_of_text (Calls b) t takes = absurd (cc takes)
 
 pub order_of_generated : (o : Order) (n : ℕ) → intake_of o ≡ Generated n → o ≡ Big n
 order_of_generated (Big k) n takes = let same : k ≡ n = cc takes in ap Big same
 order_of_generated Types n takes = absurd (cc takes)
 order_of_generated Code n takes = absurd (cc takes)
 order_of_generated Fmt n takes = absurd (cc takes)
+order_of_generated Tidy n takes = absurd (cc takes)
 order_of_generated (Run b) n takes = absurd (cc takes)
 order_of_generated (Steps b) n takes = absurd (cc takes)
 order_of_generated (Eval b) n takes = absurd (cc takes)
+order_of_generated (Trace b) n takes = absurd (cc takes)
 order_of_generated Conform n takes = absurd (cc takes)
 order_of_generated Rescale n takes = absurd (cc takes)
 order_of_generated (Twin b) n takes = absurd (cc takes)
 order_of_generated Prove n takes = absurd (cc takes)
 order_of_generated Image n takes = absurd (cc takes)
 order_of_generated (Exec b) n takes = absurd (cc takes)
+order_of_generated (Calls b) n takes = absurd (cc takes)
 
-pub order_of_bytes : (o : Order) (n : ℕ) → intake_of o ≡ Bytes n → o ≡ Exec n
-order_of_bytes (Exec b) n takes = let same : b ≡ n = cc takes in ap Exec same
-order_of_bytes Types n takes = absurd (cc takes)
-order_of_bytes Code n takes = absurd (cc takes)
-order_of_bytes Fmt n takes = absurd (cc takes)
-order_of_bytes (Run b) n takes = absurd (cc takes)
-order_of_bytes (Steps b) n takes = absurd (cc takes)
-order_of_bytes (Eval b) n takes = absurd (cc takes)
-order_of_bytes Conform n takes = absurd (cc takes)
-order_of_bytes Rescale n takes = absurd (cc takes)
-order_of_bytes (Twin b) n takes = absurd (cc takes)
-order_of_bytes Prove n takes = absurd (cc takes)
-order_of_bytes Image n takes = absurd (cc takes)
-order_of_bytes (Big k) n takes = absurd (cc takes)
+pub order_of_bytes : (o : Order) (b : BytesOrder) → intake_of o ≡ Bytes b → o ≡ order_about_bytes b
+order_of_bytes (Exec n) b takes = let same : bytes.Exec n ≡ b = cc takes in ap order_about_bytes same
+order_of_bytes (Calls n) b takes = let same : bytes.Calls n ≡ b = cc takes in ap order_about_bytes same
+order_of_bytes Types b takes = absurd (cc takes)
+order_of_bytes Code b takes = absurd (cc takes)
+order_of_bytes Fmt b takes = absurd (cc takes)
+order_of_bytes Tidy b takes = absurd (cc takes)
+order_of_bytes (Run n) b takes = absurd (cc takes)
+order_of_bytes (Steps n) b takes = absurd (cc takes)
+order_of_bytes (Eval n) b takes = absurd (cc takes)
+order_of_bytes (Trace n) b takes = absurd (cc takes)
+order_of_bytes Conform b takes = absurd (cc takes)
+order_of_bytes Rescale b takes = absurd (cc takes)
+order_of_bytes (Twin n) b takes = absurd (cc takes)
+order_of_bytes Prove b takes = absurd (cc takes)
+order_of_bytes Image b takes = absurd (cc takes)
+order_of_bytes (Big n) b takes = absurd (cc takes)
 
 -- ---- digits
 

@@ -1,6 +1,6 @@
 -- What the words of the command line ask for.
 -- Source: this project's own commands.
-use Rattle.std.specs.Prelude.{◌≡◌, ℕ, Bool, ◌&&◌, List, [], ◌∷◌, length, Option, Some, None, codes}
+use Rattle.std.specs.Prelude.{ℕ, Bool, ◌&&◌, List, [], ◌∷◌, length, Option, Some, None, codes}
 use Rattle.std.specs.Prelude.{nat_le, nat_lt, if◌then◌else◌}
 use Rattle.std.specs.List.{list_all}
 use Rattle.std.specs.Char.{is_ascii_digit}
@@ -8,10 +8,12 @@ use Rattle.std.specs.Str.{bytes_eq}
 use Rattle.std.specs.Str.Parse.{digits_value}
 use Rattle.um_sizes.specs.ScaleWords.{is_scales}
 use Rattle.um_orders.specs.declared.order.Order.{Order}
-use Rattle.um_orders.specs.declared.order.Order.TheVariants.{Types, Code, Fmt, Run, Steps, Eval, Conform}
-use Rattle.um_orders.specs.declared.order.Order.TheVariants.{Rescale, Twin, Big, Prove, Image, Exec}
+use Rattle.um_orders.specs.declared.order.Order.TheVariants.{Types, Code, Fmt, Tidy, Run, Steps, Eval, Trace, Conform}
+use Rattle.um_orders.specs.declared.order.Order.TheVariants.{Rescale, Twin, Big, Prove, Image, Exec, Calls}
 use Rattle.um_orders.specs.declared.order.Intake.{Intake}
 use Rattle.um_orders.specs.declared.order.Intake.TheVariants.{Generated, Text, Bytes}
+use Rattle.um_orders.specs.declared.order.BytesOrder.{BytesOrder}
+use Rattle.um_orders.specs.declared.order.BytesOrder.TheVariants as bytes
 use Rattle.um_orders.specs.declared.order.TextOrder.{TextOrder}
 use Rattle.um_orders.specs.declared.order.TextOrder.TheVariants as text
 
@@ -46,6 +48,7 @@ order_alone word =
     if bytes_eq word (codes "types") then Some Types
     else if bytes_eq word (codes "code") then Some Code
     else if bytes_eq word (codes "fmt") then Some Fmt
+    else if bytes_eq word (codes "tidy") then Some Tidy
     else if bytes_eq word (codes "prove") then Some Prove
     else if bytes_eq word (codes "image") then Some Image else None
 
@@ -58,11 +61,17 @@ big_order (Some n) = Some (Big n)
 abbrev pub rescale_order : Bool → Option Order
 rescale_order stated = if stated then Some Rescale else None
 
+-- calls BUDGET
+abbrev pub calls_order : Option ℕ → Option Order
+calls_order None = None
+calls_order (Some budget) = Some (Calls budget)
+
 -- a command of two words
 abbrev pub order_of_two : List ℕ → List ℕ → Option Order
 order_of_two word second =
     if bytes_eq word (codes "big") then big_order (count_of second)
-    else if bytes_eq word (codes "rescale") then rescale_order (is_scales second) else None
+    else if bytes_eq word (codes "rescale") then rescale_order (is_scales second)
+    else if bytes_eq word (codes "calls") then calls_order (budget_of second) else None
 
 -- COMMAND BUDGET NAME ARG*, by its first word and the budget
 abbrev pub call_order : List ℕ → Option ℕ → Option Order
@@ -71,6 +80,7 @@ call_order word (Some budget) =
     if bytes_eq word (codes "run") then Some (Run budget)
     else if bytes_eq word (codes "steps") then Some (Steps budget)
     else if bytes_eq word (codes "eval") then Some (Eval budget)
+    else if bytes_eq word (codes "trace") then Some (Trace budget)
     else if bytes_eq word (codes "exec") then Some (Exec budget) else None
 
 -- conform NAME TYPE, or such a command without an ARG
@@ -108,27 +118,37 @@ abbrev pub intake_of : Order → Intake
 intake_of Types = Text text.Types
 intake_of Code = Text text.Code
 intake_of Fmt = Text text.Fmt
+intake_of Tidy = Text text.Tidy
 intake_of (Run budget) = Text (text.Run budget)
 intake_of (Steps budget) = Text (text.Steps budget)
 intake_of (Eval budget) = Text (text.Eval budget)
+intake_of (Trace budget) = Text (text.Trace budget)
 intake_of Conform = Text text.Conform
 intake_of Rescale = Text text.Rescale
 intake_of (Twin budget) = Text (text.Twin budget)
 intake_of (Big n) = Generated n
 intake_of Prove = Text text.Prove
 intake_of Image = Text text.Image
-intake_of (Exec budget) = Bytes budget
+intake_of (Exec budget) = Bytes (bytes.Exec budget)
+intake_of (Calls budget) = Bytes (bytes.Calls budget)
 
 -- the order that asks this of a text
 abbrev pub order_about : TextOrder → Order
 order_about text.Types = Types
 order_about text.Code = Code
 order_about text.Fmt = Fmt
+order_about text.Tidy = Tidy
 order_about (text.Run budget) = Run budget
 order_about (text.Steps budget) = Steps budget
 order_about (text.Eval budget) = Eval budget
+order_about (text.Trace budget) = Trace budget
 order_about text.Conform = Conform
 order_about text.Rescale = Rescale
 order_about (text.Twin budget) = Twin budget
 order_about text.Prove = Prove
 order_about text.Image = Image
+
+-- the order that asks this of bytes
+abbrev pub order_about_bytes : BytesOrder → Order
+order_about_bytes (bytes.Exec budget) = Exec budget
+order_about_bytes (bytes.Calls budget) = Calls budget

@@ -11,5 +11,5 @@
 mod order;
 mod words;
 
-pub use order::{Intake, Order, TextOrder, order_of};
+pub use order::{BytesOrder, Intake, Order, TextOrder, order_of};
 pub use words::Words;

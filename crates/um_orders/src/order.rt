@@ -9,6 +9,7 @@ ghost use Rattle.um_orders.specs.Orders.{order_of_two as of_two, big_order as bi
 ghost use Rattle.um_orders.specs.Orders.{order_of_three as of_three, order_of_many as of_many};
 ghost use Rattle.um_orders.specs.Orders.{rescale_order as rescale_named, twin_order as twin_named};
 ghost use Rattle.um_orders.specs.Orders.{call_order as call_named, budget_of as budget_in, are_few_digits};
+ghost use Rattle.um_orders.specs.Orders.{calls_order as calls_named};
 ghost use Rattle.um_orders.specs.Orders.{intake_of};
 
 use crate::Words;
@@ -28,12 +29,16 @@ pub enum Order {
     Code,
     /// Print the program in its layout.
     Fmt,
+    /// Print the text laid out anew with its own tokens, comments and line breaks.
+    Tidy,
     /// Call a function by the program's code, with at most so many calls, and print its value.
     Run { budget: u64 },
     /// The same, and then print the number of steps that the machine made.
     Steps { budget: u64 },
     /// Call a function by the program's tree, with at most so many calls, and print its value.
     Eval { budget: u64 },
+    /// Call a function with at most so many calls, and print its value, or where the call stops.
+    Trace { budget: u64 },
     /// Say whether a function may be used at a signature.
     Conform,
     /// Print the program with its literals in other sizes of the base units.
@@ -48,6 +53,8 @@ pub enum Order {
     Image,
     /// Call a function of an image, with at most so many calls, and print its value.
     Exec { budget: u64 },
+    /// Call functions of one program by its code, each with at most so many calls, and print their values.
+    Calls { budget: u64 },
 }
 
 /// What an order takes from the source, and what is asked of it.
@@ -57,9 +64,8 @@ pub enum Intake {
     Generated { functions: u32 },
     /// A text of at most 1,048,576 bytes, with its tokens.
     Text(TextOrder),
-    /// Bytes as they are, at most 16,777,216 of them: those of an image, of which a function is called with at most so
-    /// many calls.
-    Bytes { budget: u64 },
+    /// Bytes as they are, at most 16,777,216 of them.
+    Bytes(BytesOrder),
 }
 
 /// What is asked of a text: the orders of [`Order`] that take one.
@@ -68,14 +74,25 @@ pub enum TextOrder {
     Types,
     Code,
     Fmt,
+    Tidy,
     Run { budget: u64 },
     Steps { budget: u64 },
     Eval { budget: u64 },
+    Trace { budget: u64 },
     Conform,
     Rescale,
     Twin { budget: u64 },
     Prove,
     Image,
+}
+
+/// What is asked of bytes: the orders of [`Order`] that take them as they are.
+#[derive(Clone, Copy)]
+pub enum BytesOrder {
+    /// They are an image, of which a function is called with at most so many calls.
+    Exec { budget: u64 },
+    /// They are a program and the lines of its calls, each of at most so many.
+    Calls { budget: u64 },
 }
 
 impl Order {
@@ -87,26 +104,30 @@ impl Order {
             Order::Types => Intake::Text(TextOrder::Types),
             Order::Code => Intake::Text(TextOrder::Code),
             Order::Fmt => Intake::Text(TextOrder::Fmt),
+            Order::Tidy => Intake::Text(TextOrder::Tidy),
             Order::Run { budget } => Intake::Text(TextOrder::Run { budget }),
             Order::Steps { budget } => Intake::Text(TextOrder::Steps { budget }),
             Order::Eval { budget } => Intake::Text(TextOrder::Eval { budget }),
+            Order::Trace { budget } => Intake::Text(TextOrder::Trace { budget }),
             Order::Conform => Intake::Text(TextOrder::Conform),
             Order::Rescale => Intake::Text(TextOrder::Rescale),
             Order::Twin { budget } => Intake::Text(TextOrder::Twin { budget }),
             Order::Big(functions) => Intake::Generated { functions },
             Order::Prove => Intake::Text(TextOrder::Prove),
             Order::Image => Intake::Text(TextOrder::Image),
-            Order::Exec { budget } => Intake::Bytes { budget },
+            Order::Exec { budget } => Intake::Bytes(BytesOrder::Exec { budget }),
+            Order::Calls { budget } => Intake::Bytes(BytesOrder::Calls { budget }),
         }
     }
 }
 
 /// The order that the words name, or nothing if they have none of the forms. Takes no memory.
 ///
-/// The forms are `types`, `code`, `fmt`, `prove`, `image`, `big N`, `rescale SIZES`, `conform NAME TYPE`,
-/// `twin BUDGET SIZES NAME ARG*`, and `run`, `steps`, `eval` or `exec` with BUDGET NAME ARG*. A budget is one to eight
-/// digits of value at most 10,000,000, N is one to four digits of value 1 to 2,000, SIZES states sizes of base units
-/// (`um_sizes::is_scales` says how), and each word is at most 1,048,576 bytes long.
+/// The forms are `types`, `code`, `fmt`, `tidy`, `prove`, `image`, `big N`, `rescale SIZES`, `calls BUDGET`,
+/// `conform NAME TYPE`, `twin BUDGET SIZES NAME ARG*`, and `run`, `steps`, `eval`, `trace` or `exec` with
+/// BUDGET NAME ARG*. A budget is one to eight digits of value at most 10,000,000, N is one to four digits of value 1 to
+/// 2,000, SIZES states sizes of base units (`um_sizes::is_scales` says how), and each word is at most 1,048,576 bytes
+/// long.
 pub fn order_of(words: &Words) -> Option<Order>
     ensures { result ≡ order_named words.now }
 {
@@ -133,6 +154,7 @@ fn order_alone(word: &str) -> Option<Order>
         "types" => Some(Order::Types),
         "code" => Some(Order::Code),
         "fmt" => Some(Order::Fmt),
+        "tidy" => Some(Order::Tidy),
         "prove" => Some(Order::Prove),
         "image" => Some(Order::Image),
         _ => None,
@@ -147,6 +169,7 @@ fn order_of_two(word: &str, second: &str, stated: bool) -> Option<Order>
     match word {
         "big" => big_order(count_of(second)),
         "rescale" => rescale_order(stated),
+        "calls" => calls_order(budget_of(second)),
         _ => None,
     }
 }
@@ -164,6 +187,14 @@ fn rescale_order(stated: bool) -> Option<Order>
     ensures { result ≡ rescale_named stated }
 {
     if stated { Some(Order::Rescale) } else { None }
+}
+
+/// The order about many calls, if there is a budget.
+fn calls_order(budget: Option<u64>) -> Option<Order>
+    ensures { result ≡ calls_named budget }
+{
+    let budget = budget?;
+    Some(Order::Calls { budget })
 }
 
 /// The order of three words or more.
@@ -223,6 +254,7 @@ fn call_order(word: &str, budget: Option<u64>) -> Option<Order>
         "run" => Some(Order::Run { budget }),
         "steps" => Some(Order::Steps { budget }),
         "eval" => Some(Order::Eval { budget }),
+        "trace" => Some(Order::Trace { budget }),
         "exec" => Some(Order::Exec { budget }),
         _ => None,
     }

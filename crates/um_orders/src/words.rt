@@ -76,7 +76,7 @@ impl Words {
         self.items[k].as_str()
     }
 
-    /// The words behind the first k.
+    /// The words after the first k.
     pub fn after(&self, k: usize) -> &[String]
         requires { k ≤ length self.now }
         ensures { map string_bytes result.now ≡ drop k self.now }

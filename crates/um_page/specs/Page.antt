@@ -18,6 +18,6 @@ pub record IsAnswer (words text bytes : List ℕ) (number : ℕ) : Type 0 where
   pub numbered : number ≡ number_of status
   pub answered : Answer (words_in words) text bytes status
 
--- a room begins with these bytes and is else as it was, where it is large enough for them
+-- a room begins with these bytes and is otherwise as it was, if it is large enough for them
 abbrev pub BeginsWith : List ℕ → List ℕ → List ℕ → Type 0
 BeginsWith bytes old new = length bytes ≤ length old → new ≡ bytes ++ drop (length bytes) old

@@ -12,9 +12,9 @@ use um_tool::Status;
 /// Runs the program on words and a text, and answers the number of the run's status.
 ///
 /// `words` has the words of a command line in UTF-8, with a zero byte between each two, and `text` is the standard
-/// input. `size` gets how many bytes the answer has, and `answer` begins with it where it has room for all of it;
-/// where it hasn't, it stays as it was, and the caller may call again with more. Where memory is wanting, the status is
-/// 17 and there is no answer.
+/// input. `size` gets how many bytes the answer has, and `answer` begins with it if it has room for all of it;
+/// otherwise it stays as it was, and the caller may call again with more. If memory is wanting, the status is 17 and
+/// there is no answer.
 #[unsafe(no_mangle)]
 pub extern "C" fn um_page_serve(
     alloc: Global,
@@ -28,7 +28,7 @@ pub extern "C" fn um_page_serve(
         ⊎ ((bytes : List ℕ) × IsAnswer words.now text.now bytes result × (size.new ≡ length bytes)
         × BeginsWith bytes answer.old answer.new) }
 
-    // Where every step goes through, the order is done, or memory was wanting.
+    // If every step goes through, the order is done, or memory was wanting.
     ensures complete { IsComplete (words_in words.now) text.now
         → result ≢ number_of NoMemory → result ≡ number_of Done }
 {
@@ -45,7 +45,7 @@ pub extern "C" fn um_page_serve(
     }
 }
 
-/// Copies the bytes into the front of `into`, where it has room for all of them.
+/// Copies the bytes into the front of `into`, if it has room for all of them.
 fn copy_to_front(bytes: &[u8], into: &mut [u8])
     ensures { BeginsWith bytes.now into.old into.new }
 {

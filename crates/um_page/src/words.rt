@@ -7,7 +7,7 @@ use std::alloc::{AllocError, Global};
 use std::str;
 use um_tool::Words;
 
-/// The words in these bytes; where they aren't UTF-8, the one word `?`.
+/// The words in these bytes; if they aren't UTF-8, the one word `?`.
 pub(crate) fn words_of(alloc: Global, bytes: &[u8]) -> Result<Words, AllocError>
     ensures { IfOk result (λ words. words ≡ words_in bytes.now) }
 {

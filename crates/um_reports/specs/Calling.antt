@@ -1,4 +1,4 @@
--- Mirrors the code: what is known where a call is refused.
+-- Mirrors the code: what is known of a refused call.
 -- Source: this project's own.
 use Rattle.std.specs.Prelude.{ℕ, ◌<◌}
 use Rattle.um_run.specs.declared.call.CallRefusal.{CallRefusal}

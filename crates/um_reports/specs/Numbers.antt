@@ -2,8 +2,8 @@
 -- Source: this project's own numbers.
 use Rattle.std.specs.Prelude.{ℕ}
 use Rattle.um_reports.specs.declared.status.Status.{Status}
-use Rattle.um_reports.specs.declared.status.Status.TheVariants.{Done, Usage, TooLong, Utf8, Lexical, Syntax, Limit, Names}
-use Rattle.um_reports.specs.declared.status.Status.TheVariants.{Shape, Units, PowerRange, Input, Trap, BudgetEnd}
+use Rattle.um_reports.specs.declared.status.Status.TheVariants.{Done, Usage, TooLong, Utf8, Lexical, Syntax, Limit}
+use Rattle.um_reports.specs.declared.status.Status.TheVariants.{Names, Shape, Units, PowerRange, Input, Trap, BudgetEnd}
 use Rattle.um_reports.specs.declared.status.Status.TheVariants.{ScaleRange, ReadFault, WriteFault, NoMemory}
 use Rattle.um_reports.specs.declared.status.Status.TheVariants.{NotGeneral, NotConform, CertRange, BadImage}
 

@@ -112,7 +112,7 @@ IsRangeReply bytes name at text status = IsReply text status (placed (range_labe
 abbrev pub IsSlotsReply : List ℕ → ℕ → List ℕ → Status → Type 0
 IsSlotsReply bytes at text status = IsReply text status (placed (limit_label limit.Slots) bytes at) Limit
 
--- the number passes what its certificate can hold
+-- the number is too large for its certificate
 abbrev pub IsCertificateReply : List ℕ → ℤ → List ℕ → Status → Type 0
 IsCertificateReply name number text status =
     IsReply text status

@@ -1,4 +1,4 @@
-//! How a run may end, and what the program says where it refuses: report lines, with the places that they name.
+//! How a run may end, and what the program says when it refuses: report lines, with the places that they name.
 //!
 //! ```
 //! let reply = reply_to_trap(alloc, Trap::DivZero)?; // `error 12: division by zero`, and its status

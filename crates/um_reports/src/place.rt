@@ -1,7 +1,7 @@
 // Lines and columns, and positions in a word.
-ghost use Rattle.std.specs.Prelude.{◌≡◌, ◌++◌, OnOk, decimal, take, length};
-ghost use Rattle.um_reports.specs.Places.{line_of as line_behind, column_of as column_behind, place_text};
-ghost use Rattle.um_reports.specs.Places.{position_of as position_behind, begins_character as begins};
+ghost use Rattle.std.specs.Prelude.{◌≡◌, ◌++◌, OnOk, decimal, take};
+ghost use Rattle.um_reports.specs.Places.{line_of as line_after, column_of as column_after, place_text};
+ghost use Rattle.um_reports.specs.Places.{position_of as position_after, begins_character as begins};
 
 use std::alloc::AllocError;
 
@@ -17,7 +17,7 @@ pub(crate) fn push_place(text: &mut Vec<u8>, bytes: &[u8], at: u32) -> Result<()
 
 /// Adds the position of a byte offset in a word.
 pub(crate) fn push_position(text: &mut Vec<u8>, word: &[u8], at: u32) -> Result<(), AllocError>
-    ensures { OnOk result (text.new.items ≡ text.old.items ++ decimal (position_behind (take at word.now))) }
+    ensures { OnOk result (text.new.items ≡ text.old.items ++ decimal (position_after (take at word.now))) }
 {
     text.extend_from_slice(
         itoa::Buffer::new()
@@ -37,9 +37,9 @@ fn before(bytes: &[u8], at: u32) -> &[u8]
     }
 }
 
-/// The line of the place behind these bytes.
+/// The line of the place after these bytes.
 fn line_of(before: &[u8]) -> u64
-    ensures { result ≡ line_behind before.now }
+    ensures { result ≡ line_after before.now }
 {
     let mut line = 1;
     for byte in before {
@@ -50,9 +50,9 @@ fn line_of(before: &[u8]) -> u64
     line
 }
 
-/// The column of the place behind these bytes.
+/// The column of the place after these bytes.
 fn column_of(before: &[u8]) -> u64
-    ensures { result ≡ column_behind before.now }
+    ensures { result ≡ column_after before.now }
 {
     let mut column = 1;
     for byte in before {
@@ -65,9 +65,9 @@ fn column_of(before: &[u8]) -> u64
     column
 }
 
-/// The position of the place behind these bytes of a word.
+/// The position of the place after these bytes of a word.
 fn position_of(before: &[u8]) -> u64
-    ensures { result ≡ position_behind before.now }
+    ensures { result ≡ position_after before.now }
 {
     let mut position = 1;
     for byte in before {

@@ -214,7 +214,7 @@ pub fn reply_to_slots(alloc: Global, bytes: &[u8], at: u32) -> Result<Reply, All
     )
 }
 
-/// The refusal of the function of this name, of which no certificate is made: the number passes what one can hold.
+/// The refusal of the function of this name, of which no certificate is made: the number is too large for one.
 pub fn reply_to_certificate(alloc: Global, name: &Name, number: i128) -> Result<Reply, AllocError>
     ensures { IfOk result (λ reply. IsCertificateReply name.now number reply.text.items reply.status) }
 {

@@ -32,7 +32,7 @@ pub enum Status {
     NotGeneral,
     /// A function can't be used at a signature.
     NotConform,
-    /// A number passes what a function's certificate can hold.
+    /// A number is too large for a function's certificate.
     CertRange,
     /// The bytes are no image, or one that is refused.
     BadImage,

@@ -39,7 +39,7 @@ pub fn push_piece(
     Ok(())
 }
 
-// The part behind a backslash, up to the next.
+// The part after a backslash, up to the next.
 fn push_escaped(alloc: Global, out: &mut Vec<u8>, part: &str, round: u64) -> Result<(), LineFault> {
     let rest = if let Some(rest) = part.strip_prefix("n") {
         out.push(b'\n')?;
@@ -72,7 +72,7 @@ fn push_longest_word(out: &mut Vec<u8>) -> Result<(), AllocError> {
     Ok(())
 }
 
-// The byte of `x` and two hexadecimal digits, and what stands behind them.
+// The byte of `x` and two hexadecimal digits, and what stands after them.
 fn byte_of(part: &str) -> Option<(u8, &str)> {
     let digits = part.strip_prefix("x")?;
     let byte = u8::from_str_radix(digits.get(..2)?, 16).ok()?;

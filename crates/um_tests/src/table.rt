@@ -11,7 +11,7 @@
 //   < PIECE each, > PIECE ROOM each   one run for each call in turn, which fails, and one that meets no
 //                   fault: this one has the answer, the others the line on a failed read or its first bytes
 //   ~ STATUS        one run for each proper prefix of the text: its status is at most this one, and it names
-//                   no place behind the prefix
+//                   no place after the prefix
 //   = STATUS        begins the answer
 //   # ..            says something to a reader, as an empty line does
 //

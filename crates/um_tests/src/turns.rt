@@ -1,4 +1,4 @@
-// Questions that are put many times, where one thing changes from run to run.
+// Questions that are put many times, while one thing changes from run to run.
 use crate::run::{Tally, ask, first_line};
 use crate::table::{Question, TableStop, Text, Turns, WHOLE, Wire};
 use std::alloc::{AllocError, Global};
@@ -104,7 +104,7 @@ fn pieces(bytes: usize, piece: usize) -> usize {
     bytes / most + if bytes % most == 0 { 0 } else { 1 }
 }
 
-// Whether the place that a report line names, if it names one, isn't behind the end of an ASCII text.
+// Whether the place that a report line names, if it names one, isn't after the end of an ASCII text.
 fn is_within(report: &str, text: &[u8]) -> bool {
     let line = report.strip_suffix("\n").unwrap_or(report);
     let Some((_, place)) = line.rsplit_once(" at ") else {

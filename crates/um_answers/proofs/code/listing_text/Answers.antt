@@ -1,7 +1,6 @@
 use Rattle.std.proofs.Common.{length, All, sym, ap, subst, ◌∙◌}
 use Rattle.um_tree.specs.declared.program.Program.{Program}
 use Rattle.um_tree.specs.ProgramTree.{program_tree}
-use Rattle.um_gen.specs.ProgramCode.{program_code}
 use Rattle.um_machine.specs.declared.code.Code.{Code}
 use Rattle.um_answers.proofs.CodeEntries.{IsWithin, code_counted, code_within}
 use Rattle.um_answers.proofs.code.listing_text.Goals as goal

@@ -1,4 +1,4 @@
-use Rattle.std.proofs.Common.{◌≡◌, ◌<◌, length, get_or, slice_get, Some, subst, sym, ap, ◌∙◌, rules, arith, List}
+use Rattle.std.proofs.Common.{◌≡◌, ◌<◌, length, get_or, slice_get, Some, subst, rules, arith}
 use Rattle.std.proofs.lemmas.Result.{IfOk-weaker}
 use Rattle.std.proofs.lemmas.List.{length-map}
 use Rattle.um_tree.specs.declared.program.Schemes.{Schemes}

@@ -1,10 +1,6 @@
-use Rattle.std.proofs.Common.{◌≡◌, length, List, sym, ap, ◌∙◌, subst}
+use Rattle.std.proofs.Common.{length, sym, ap, ◌∙◌}
 use Rattle.um_tree.specs.declared.program.Program.{Program}
-use Rattle.um_tree.specs.declared.program.Schemes.{Schemes}
 use Rattle.um_tree.specs.ProgramTree.{program_tree}
-use Rattle.um_infer.specs.Answers.{scheme_trees}
-use Rattle.um_infer.specs.Inference.{all_schemes, infer}
-use Rattle.um_answers.specs.TypesAnswer.{scheme_lines}
 use Rattle.um_answers.proofs.SchemesGiven.{as_many_schemes}
 use Rattle.um_answers.proofs.types.checked_text.Goals as goal
 

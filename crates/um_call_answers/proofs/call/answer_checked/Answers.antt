@@ -1,33 +1,39 @@
-use Rattle.std.proofs.Common.{length, map, string_bytes, Ok, sym, subst}
-use Rattle.std.proofs.lemmas.List.{length-map}
+use Rattle.std.proofs.Common.{inl, inr, sym, subst}
 use Rattle.std.proofs.lemmas.Result.{IfOk-weaker}
 use Rattle.um_tree.specs.declared.program.Program.{Program}
 use Rattle.um_tree.specs.ProgramTree.{program_tree}
-use Rattle.um_infer.specs.Answers.{scheme_trees}
-use Rattle.um_run.specs.Calls.{AreClosedUnits, call_tree}
-use Rattle.um_reports.specs.Calling.{NamesText}
+use Rattle.um_cells.specs.Arguments.{AreArgumentsOf}
+use Rattle.um_run.specs.Calls.{call_tree, call_values}
 use Rattle.um_front.specs.Parts.{checked_tree}
 use Rattle.um_call_answers.specs.Calling.{asked_call}
+use Rattle.um_call_answers.specs.OfCall.{IsRefusedCall}
 use Rattle.um_call_answers.specs.CallAnswer.{IsCallAnswer, RunAnswer}
-use Rattle.um_call_answers.proofs.AskedCalls.{read_as_asked, text_named}
 use Rattle.um_call_answers.proofs.call.answer_checked.Goals as goal
 
-pub read_call-requires-clause-closed : goal.read_call-requires-clause-closed
-read_call-requires-clause-closed c =
-    subst (λ (p : Program). AreClosedUnits (length (program_tree p).bases) c.abbreviations-abbreviations.result.now) (sym c.shaped-shaped.ensures.shaped) c.abbreviations-abbreviations.ensures.closed
-
-pub reply_to_call-requires : goal.reply_to_call-requires
-reply_to_call-requires c =
-    let texts = c.args.call.now.texts.now in
-    let there = text_named (program_tree c.shaped-shaped.result.now) c.abbreviations-abbreviations.result.now (scheme_trees c.schemes-schemes.result.now) c.args.call.now.name.now (map string_bytes texts) c.in-Err.refusal c.in-Err.ensures.exact in
-    record { named = subst (λ n. NamesText n c.in-Err.refusal) (length-map texts string_bytes) there }
+pub reply_to_run-answer-requires : goal.reply_to_run-answer-requires
+reply_to_run-answer-requires c =
+    let call = call_tree c.in-Ok.read in
+    record {
+      can = record {
+        arguments = subst (λ (p : Program). AreArgumentsOf (program_tree p) call.function (call_values call)) (sym c.shaped.ensures.shaped) c.in-Ok.ensures.typed.arguments;
+        small = c.requires.call.small;
+      };
+    }
 
 pub returns-in-Ok : goal.returns-in-Ok
 unfolding IsCallAnswer
 returns-in-Ok c =
     let asked = asked_call c.args.call.now in let checked = checked_tree c.args.checked.now in let call = call_tree c.in-Ok.read in
-    let named = read_as_asked c.args.checked.now.text.shaped c.shaped-shaped.result.now c.args.checked.now.text.abbreviations c.abbreviations-abbreviations.result.now c.args.checked.now.schemes c.schemes-schemes.result.now asked.name asked.texts (Ok call) c.shaped-shaped.ensures.shaped c.abbreviations-abbreviations.ensures.abbreviations c.schemes-schemes.ensures.schemes c.in-Ok.ensures.exact in
-    IfOk-weaker c.answer_run.result (λ reply. RunAnswer c.args.way asked.budget (program_tree c.shaped-shaped.result.now) call reply.text.items reply.status)
+    IfOk-weaker c.reply_to_run-answer.result (λ reply. RunAnswer c.args.way asked.budget (program_tree c.shaped.result.now) call reply.text.items reply.status)
     (λ reply. IsCallAnswer c.args.way asked checked reply.text.items reply.status)
-    (λ reply says. (Ok call, named, subst (λ (p : Program). RunAnswer c.args.way asked.budget (program_tree p) call reply.text.items reply.status) c.shaped-shaped.ensures.shaped says))
-    c.answer_run.ensures
+    (λ reply says. inl (call, c.in-Ok.ensures.exact, subst (λ (p : Program). RunAnswer c.args.way asked.budget (program_tree p) call reply.text.items reply.status) c.shaped.ensures.shaped says))
+    c.reply_to_run-answer.ensures
+
+pub returns-in-Err : goal.returns-in-Err
+unfolding IsCallAnswer
+returns-in-Err c =
+    let asked = asked_call c.args.call.now in let checked = checked_tree c.args.checked.now in
+    IfOk-weaker c.in-Err.refused (λ reply. IsRefusedCall asked checked reply.text.items reply.status)
+    (λ reply. IsCallAnswer c.args.way asked checked reply.text.items reply.status)
+    (λ reply says. inr says)
+    c.in-Err.ensures.refused

@@ -13,10 +13,10 @@ returns-in-Ok c =
     let asked = asked_call c.args.call.now in let image = image_tree c.args.image.now in
     let call = image_call_tree c.in-Ok.read in
     let named = subst (λ (i : ImageTree). IsImageCallOf i asked.name asked.texts (Ok call)) (ap image_tree c.image.ensures.image) c.in-Ok.ensures.exact in
-    IfOk-weaker c.answer_run.result (λ reply. ImageRunAnswer asked.budget image call reply.text.items reply.status)
+    IfOk-weaker c.reply_to_run-answer.result (λ reply. ImageRunAnswer asked.budget image call reply.text.items reply.status)
     (λ reply. VerifiedAnswer asked image reply.text.items reply.status)
     (λ reply says. (Ok call, named, says))
-    c.answer_run.ensures
+    c.reply_to_run-answer.ensures
 
 pub returns-in-Err : goal.returns-in-Err
 unfolding VerifiedAnswer

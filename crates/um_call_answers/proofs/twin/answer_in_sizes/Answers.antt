@@ -1,48 +1,15 @@
-use Rattle.std.proofs.Common.{length, map, string_bytes, Ok, sym, subst}
-use Rattle.std.proofs.lemmas.List.{length-map}
-use Rattle.std.proofs.lemmas.Result.{IfOk-weaker}
-use Rattle.um_tree.specs.declared.program.Program.{Program}
-use Rattle.um_tree.specs.ProgramTree.{program_tree}
-use Rattle.um_infer.specs.Answers.{scheme_trees}
-use Rattle.um_run.specs.Calls.{AreClosedUnits, call_tree}
-use Rattle.um_run.specs.Laws.{IsTypedCall}
-use Rattle.um_reports.specs.Calling.{NamesText}
 use Rattle.um_front.specs.Parts.{checked_tree}
 use Rattle.um_front.proofs.CheckedTexts.{shaped_is_formed}
-use Rattle.um_call_answers.specs.Calling.{asked_call}
-use Rattle.um_call_answers.specs.TwinAnswer.{SizedAnswer, TwinLiteralsAnswer}
-use Rattle.um_call_answers.proofs.AskedCalls.{read_as_asked, text_named}
 use Rattle.um_call_answers.proofs.twin.answer_in_sizes.Goals as goal
-
-pub read_call-requires-clause-closed : goal.read_call-requires-clause-closed
-read_call-requires-clause-closed c =
-    subst (λ (p : Program). AreClosedUnits (length (program_tree p).bases) c.abbreviations-abbreviations.result.now) (sym c.shaped-shaped.ensures.shaped) c.abbreviations-abbreviations.ensures.closed
 
 pub answer_read-requires : goal.answer_read-requires
 answer_read-requires c =
-    let checked = checked_tree c.args.checked.now in let call = call_tree c.in-Ok.read in
+    let checked = checked_tree c.args.checked.now in
     record {
       can = record {
-        formed = shaped_is_formed c.args.checked.now.text.text.bytes.items checked.text c.shaped-shaped.ensures.checked.shaped;
+        formed = shaped_is_formed c.args.checked.now.text.text.bytes.items checked.text c.in-Ok.ensures.checked.shaped;
         positive = c.requires.positive;
-        typed = subst (λ (p : Program). IsTypedCall (program_tree p) call) c.shaped-shaped.ensures.shaped c.in-Ok.ensures.typed;
+        typed = c.in-Ok.ensures.typed;
         small = c.requires.call.small;
       };
     }
-
-pub reply_to_call-requires : goal.reply_to_call-requires
-reply_to_call-requires c =
-    let texts = c.args.call.now.texts.now in
-    let there = text_named (program_tree c.shaped-shaped.result.now) c.abbreviations-abbreviations.result.now (scheme_trees c.schemes-schemes.result.now) c.args.call.now.name.now (map string_bytes texts) c.in-Err.refusal c.in-Err.ensures.exact in
-    record { named = subst (λ n. NamesText n c.in-Err.refusal) (length-map texts string_bytes) there }
-
-pub returns-in-Ok : goal.returns-in-Ok
-unfolding SizedAnswer
-returns-in-Ok c =
-    let asked = asked_call c.args.call.now in let checked = checked_tree c.args.checked.now in let call = call_tree c.in-Ok.read in
-    let cs = c.args.scales.now in let bytes = c.args.checked.now.text.text.bytes.items in
-    let named = read_as_asked c.args.checked.now.text.shaped c.shaped-shaped.result.now c.args.checked.now.text.abbreviations c.abbreviations-abbreviations.result.now c.args.checked.now.schemes c.schemes-schemes.result.now asked.name asked.texts (Ok call) c.shaped-shaped.ensures.shaped c.abbreviations-abbreviations.ensures.abbreviations c.schemes-schemes.ensures.schemes c.in-Ok.ensures.exact in
-    IfOk-weaker c.answer_read.result (λ reply. TwinLiteralsAnswer asked.budget cs bytes checked.text.program call reply.text.items reply.status)
-    (λ reply. SizedAnswer cs asked bytes checked reply.text.items reply.status)
-    (λ reply says. (Ok call, named, says))
-    c.answer_read.ensures

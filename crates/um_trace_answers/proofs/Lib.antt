@@ -1,0 +1,5 @@
+mod TracePlaces
+mod Stops
+mod CallLines
+pub mod TraceAnswers
+pub mod Runs
