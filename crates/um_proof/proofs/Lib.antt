@@ -12,3 +12,4 @@ mod DeclaredUnits
 mod Judged
 mod ValidYes
 mod ValidNo
+pub mod CertifiedTypings

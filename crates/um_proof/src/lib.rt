@@ -9,6 +9,7 @@
 //! ```
 #![tactic(auto)]
 
+pub mod laws;
 mod program;
 mod proofs;
 mod refused;

@@ -12,7 +12,7 @@ use Rattle.um_value.specs.declared.stop.InputStop.{InputStop}
 use Rattle.um_value.specs.declared.stop.InputStop.TheVariants as input_stop
 use Rattle.um_run.specs.declared.call.CallRefusal.{CallRefusal}
 use Rattle.um_run.specs.declared.call.CallRefusal.TheVariants as refusal
-use Rattle.um_run.specs.Calls.{CallTree, call_values, IsCallOf}
+use Rattle.um_run.specs.Calls.{CallTree, call_values}
 use Rattle.um_run.proofs.CallLaws.{calls_are_typed}
 use Rattle.um_scaling.proofs.FreeZeroLaws.{free_zeros_of_calls}
 use Rattle.um_sig.specs.declared.signature.Signature.{Signature as ReadSignature}
@@ -38,7 +38,8 @@ use Rattle.um_answers.specs.ConformAnswer.{ConformAnswer, IsConformAnswer, Signa
 use Rattle.um_answers.proofs.ConformsDone.{read_over_bases}
 use Rattle.um_call_answers.specs.declared.way.Way.{Way}
 use Rattle.um_call_answers.specs.AskedCall.{AskedCall}
-use Rattle.um_call_answers.specs.CallAnswer.{CallAnswer, IsCallAnswer, ByCall, RunAnswer}
+use Rattle.um_call_answers.specs.OfCall.{IsAskedCall, OfCall}
+use Rattle.um_call_answers.specs.CallAnswer.{CallAnswer, IsCallAnswer, RunAnswer}
 use Rattle.um_tool.specs.Asked.{called, held_name, signature_text}
 use Rattle.um_tool.specs.Answer.{Answer, ByOrder}
 use Rattle.um_tool.specs.CallLaws.{IsCall, ends_a_call, IsMeantCall, EndedCallsAreMeant, is_verdict, IsVerdict, VerdictsSayWhatTypingsAre}
@@ -59,29 +60,37 @@ late_verdicts Done verdict = refl
 late_verdicts NotConform verdict = refl
 late_verdicts status verdict = absurd cc
 
-argument_refusal : (index : ℕ) (word : List ℕ) (stop : InputStop) (text : List ℕ) (status : Status) → IsArgumentReply index word stop text status → IsTrue (ends_a_call status) → ⊥
-argument_refusal index word (input_stop.Text at) text status reply ends = refuted ends_a_call status Input reply.1 refl ends
-argument_refusal index word (input_stop.Shape at) text status reply ends = refuted ends_a_call status Input reply.1 refl ends
-argument_refusal index word (input_stop.Names at) text status reply ends = refuted ends_a_call status Input reply.1 refl ends
-argument_refusal index word (input_stop.PowerRange at) text status reply ends = refuted ends_a_call status Input reply.1 refl ends
-argument_refusal index word input_stop.NoMemory text status reply ends = reply
+-- what fails at the statuses of refused words fails at a refused call
+module _ (test : Status → Bool) (input : test Input ≡ false) (range : test PowerRange ≡ false) (limit : test Limit ≡ false) where
+  argument_fails : (index : ℕ) (word : List ℕ) (stop : InputStop) (text : List ℕ) (status : Status) → IsArgumentReply index word stop text status → IsTrue (test status) → ⊥
+  argument_fails index word (input_stop.Text at) text status reply holds = refuted test status Input reply.1 input holds
+  argument_fails index word (input_stop.Shape at) text status reply holds = refuted test status Input reply.1 input holds
+  argument_fails index word (input_stop.Names at) text status reply holds = refuted test status Input reply.1 input holds
+  argument_fails index word (input_stop.PowerRange at) text status reply holds = refuted test status Input reply.1 input holds
+  argument_fails index word input_stop.NoMemory text status reply holds = reply
+
+  pub call_fails : (texts : List (List ℕ)) (refused : CallRefusal) (text : List ℕ) (status : Status) → IsCallReply texts refused text status → IsTrue (test status) → ⊥
+  call_fails texts refusal.NoFunction text status reply holds = refuted test status Input reply.1 input holds
+  call_fails texts refusal.WrongCount text status reply holds = refuted test status Input reply.1 input holds
+  call_fails texts (refusal.Argument index stop) text status reply holds = argument_fails index (get_or texts index []) stop text status reply holds
+  call_fails texts refusal.Units text status reply holds = refuted test status Input reply.1 input holds
+  call_fails texts refusal.PowerRange text status reply holds = refuted test status PowerRange reply.1 range holds
+  call_fails texts refusal.Slots text status reply holds = refuted test status Limit reply.1 limit holds
+  call_fails texts refusal.NoMemory text status reply holds = reply
+
+  pub signature_fails : (word : List ℕ) (stop : SigText) (text : List ℕ) (status : Status) → IsSignatureReply word stop text status → IsTrue (test status) → ⊥
+  signature_fails word (sig_text.Text at) text status reply holds = refuted test status Input reply.1 input holds
+  signature_fails word (sig_text.Syntax at) text status reply holds = refuted test status Input reply.1 input holds
+  signature_fails word (sig_text.Height at) text status reply holds = refuted test status Input reply.1 input holds
+  signature_fails word (sig_text.Names at) text status reply holds = refuted test status Input reply.1 input holds
+  signature_fails word (sig_text.PowerRange at) text status reply holds = refuted test status Input reply.1 input holds
+  signature_fails word sig_text.NoMemory text status reply holds = reply
 
 pub call_refusal : (texts : List (List ℕ)) (refused : CallRefusal) (text : List ℕ) (status : Status) → IsCallReply texts refused text status → IsTrue (ends_a_call status) → ⊥
-call_refusal texts refusal.NoFunction text status reply ends = refuted ends_a_call status Input reply.1 refl ends
-call_refusal texts refusal.WrongCount text status reply ends = refuted ends_a_call status Input reply.1 refl ends
-call_refusal texts (refusal.Argument index stop) text status reply ends = argument_refusal index (get_or texts index []) stop text status reply ends
-call_refusal texts refusal.Units text status reply ends = refuted ends_a_call status Input reply.1 refl ends
-call_refusal texts refusal.PowerRange text status reply ends = refuted ends_a_call status PowerRange reply.1 refl ends
-call_refusal texts refusal.Slots text status reply ends = refuted ends_a_call status Limit reply.1 refl ends
-call_refusal texts refusal.NoMemory text status reply ends = reply
+call_refusal texts refused text status reply ends = call_fails ends_a_call refl refl refl texts refused text status reply ends
 
 signature_refusal : (word : List ℕ) (stop : SigText) (text : List ℕ) (status : Status) → IsSignatureReply word stop text status → IsTrue (is_verdict status) → ⊥
-signature_refusal word (sig_text.Text at) text status reply verdict = refuted is_verdict status Input reply.1 refl verdict
-signature_refusal word (sig_text.Syntax at) text status reply verdict = refuted is_verdict status Input reply.1 refl verdict
-signature_refusal word (sig_text.Height at) text status reply verdict = refuted is_verdict status Input reply.1 refl verdict
-signature_refusal word (sig_text.Names at) text status reply verdict = refuted is_verdict status Input reply.1 refl verdict
-signature_refusal word (sig_text.PowerRange at) text status reply verdict = refuted is_verdict status Input reply.1 refl verdict
-signature_refusal word sig_text.NoMemory text status reply verdict = reply
+signature_refusal word stop text status reply verdict = signature_fails is_verdict refl refl refl word stop text status reply verdict
 
 -- ---- calls
 
@@ -89,10 +98,11 @@ in_order : (inputs : List InputTree) → values_in_order (map without_units inpu
 in_order [] = refl
 in_order (input ∷ inputs) = ap (more_values (without_units input)) (in_order inputs)
 
-module _ (way : Way) (asked : AskedCall) (bytes text : List ℕ) (status : Status) (ends : IsTrue (ends_a_call status)) where
-  call_meant : (c : CheckedTree) → IsCheckedText bytes c → (r : Result CallTree CallRefusal) → IsCallOf c.text.program c.text.abbreviations c.schemes asked.name asked.texts r → ByCall way asked c.text.program r text status → IsMeantCall way asked bytes text status
+module _ (way : Way) (asked : AskedCall) (bytes text : List ℕ) (status : Status) where
+  -- the run of a call that has a type
+  pub run_meant : (c : CheckedTree) → IsCheckedText bytes c → (call : CallTree) → IsAskedCall asked c call → RunAnswer way asked.budget c.text.program call text status → IsMeantCall way asked bytes text status
   unfolding RunAnswer
-  call_meant c is (Ok call) named (o, meant, steps, counted, printed) =
+  run_meant c is call named (o, meant, steps, counted, printed) =
       let p = c.text.program in
       let known = checked_is_known bytes c is in
       let typed = calls_are_typed p c.text.abbreviations c.schemes asked.name asked.texts known call named in
@@ -110,11 +120,15 @@ module _ (way : Way) (asked : AskedCall) (bytes text : List ℕ) (status : Statu
         counted = counted;
         printed = printed;
       }
-  call_meant c is (Err refused) named reply = absurd (call_refusal asked.texts refused text status reply ends)
+
+module _ (way : Way) (asked : AskedCall) (bytes text : List ℕ) (status : Status) (ends : IsTrue (ends_a_call status)) where
+  call_meant : (c : CheckedTree) → IsCheckedText bytes c → OfCall (RunAnswer way asked.budget) asked c text status → IsMeantCall way asked bytes text status
+  call_meant c is (inl (call, named, answer)) = run_meant way asked bytes text status c is call named answer
+  call_meant c is (inr (refused, named, reply)) = absurd (call_refusal asked.texts refused text status reply ends)
 
   checked_meant : (c : CheckedTree) → IsCheckedText bytes c → IsCallAnswer way asked c text status → IsMeantCall way asked bytes text status
   unfolding IsCallAnswer
-  checked_meant c is (r, named, answer) = call_meant c is r named answer
+  checked_meant c is answer = call_meant c is answer
 
   answered_meant : CallAnswer way asked bytes text status → IsMeantCall way asked bytes text status
   unfolding CallAnswer
@@ -123,7 +137,7 @@ module _ (way : Way) (asked : AskedCall) (bytes text : List ℕ) (status : Statu
       checked_meant r.0 r.1 r.2
 
 -- an order that calls is answered as its call
-call_answer : (order : Order) (w : Way) (budget : ℕ) (words : List (List ℕ)) (bytes text : List ℕ) (status : Status) → IsCall order w budget → ByOrder order words bytes text status → CallAnswer w (called budget words) bytes text status
+pub call_answer : (order : Order) (w : Way) (budget : ℕ) (words : List (List ℕ)) (bytes text : List ℕ) (status : Status) → IsCall order w budget → ByOrder order words bytes text status → CallAnswer w (called budget words) bytes text status
 call_answer (Run n) w budget words bytes text status (way, same) answer = subst (λ b. CallAnswer w (called b words) bytes text status) same (subst (λ v. CallAnswer v (called n words) bytes text status) (sym way) answer)
 call_answer (Steps n) w budget words bytes text status (way, same) answer = subst (λ b. CallAnswer w (called b words) bytes text status) same (subst (λ v. CallAnswer v (called n words) bytes text status) (sym way) answer)
 call_answer (Eval n) w budget words bytes text status (way, same) answer = subst (λ b. CallAnswer w (called b words) bytes text status) same (subst (λ v. CallAnswer v (called n words) bytes text status) (sym way) answer)

@@ -1,22 +1,23 @@
 -- If every step goes through, the answer is done.
-use Rattle.std.proofs.Common.{◌≡◌, ℕ, List, Some, MatchOption, codes, inl, inr}
+use Rattle.std.proofs.Common.{◌≡◌, ℕ, List, inl, inr}
 use Rattle.std.specs.declared.option.Option.{Option}
+use Rattle.um_lines.specs.Sources.{program_in}
 use Rattle.um_orders.specs.declared.order.Order.{Order}
-use Rattle.um_orders.specs.declared.order.Order.TheVariants.{Types, Code, Fmt, Run, Steps, Eval, Conform, Rescale, Twin, Big, Prove, Image, Exec}
-use Rattle.um_orders.specs.Orders.{order_of}
+use Rattle.um_orders.specs.declared.order.Order.TheVariants.{Types, Code, Fmt, Tidy, Run, Steps, Eval, Trace, Conform, Rescale, Twin, Big, Prove, Image, Exec, Calls}
 use Rattle.um_reports.specs.declared.status.Status.{Status}
 use Rattle.um_reports.specs.declared.status.Status.TheVariants.{Done}
 use Rattle.um_sig.specs.Laws.{ReadingsAreUnique}
-use Rattle.um_front.specs.Stages.{IsCheckedText}
 use Rattle.um_answers.proofs.ConformsDone.{conform_done}
 use Rattle.um_answers.proofs.ImageAnswers.{image_done}
 use Rattle.um_answers.proofs.RescaleAnswers.{rescale_done}
-use Rattle.um_answers.proofs.TextAnswers.{typed_text_is_checked, types_done, code_done, fmt_done, prove_done}
+use Rattle.um_answers.proofs.TextAnswers.{typed_text_is_checked, types_done, code_done, fmt_done, tidy_done, prove_done}
 use Rattle.um_call_answers.specs.declared.way.Way.TheVariants as way
 use Rattle.um_call_answers.specs.Laws.{ExecAnswersAreDone}
 use Rattle.um_call_answers.proofs.CallsDone.{call_done}
+use Rattle.um_call_answers.proofs.CallsAnswers.{calls_done}
 use Rattle.um_call_answers.proofs.BigAnswers.{big_done}
 use Rattle.um_call_answers.proofs.TwinDone.{twin_done}
+use Rattle.um_trace_answers.proofs.TraceAnswers.{trace_done}
 use Rattle.um_tool.specs.Asked.{called, held_name, signature_text, rescale_sizes, twin_sizes, called_twice}
 use Rattle.um_tool.specs.Answer.{Answer, ByOrder}
 use Rattle.um_tool.specs.Passing.{GoesThrough}
@@ -27,9 +28,11 @@ module _ (one_reading : ReadingsAreUnique) (exec_done : ExecAnswersAreDone) wher
   by_order_done Types words bytes text status typed answer = let checked = typed_text_is_checked bytes typed in types_done bytes text status checked.0 checked.1 answer
   by_order_done Code words bytes text status typed answer = let checked = typed_text_is_checked bytes typed in code_done bytes text status checked.0 checked.1 answer
   by_order_done Fmt words bytes text status (raw, read) answer = fmt_done bytes text status raw read answer
+  by_order_done Tidy words bytes text status (raw, read) answer = tidy_done bytes text status raw read answer
   by_order_done (Run budget) words bytes text status (c, is, gives) answer = call_done way.Code (called budget words) c gives text status bytes is answer
   by_order_done (Steps budget) words bytes text status (c, is, gives) answer = call_done way.Counted (called budget words) c gives text status bytes is answer
   by_order_done (Eval budget) words bytes text status (c, is, gives) answer = call_done way.Tree (called budget words) c gives text status bytes is answer
+  by_order_done (Trace budget) words bytes text status (c, is, can) answer = trace_done (called budget words) c can bytes text status is answer
   by_order_done Conform words bytes text status (c, is, has) answer = conform_done one_reading (held_name words) (signature_text words) bytes c is has text status answer
   by_order_done Rescale words bytes text status (c, is, has) answer = rescale_done (rescale_sizes words) bytes c is has text status answer
   by_order_done (Twin budget) words bytes text status (c, is, gives) answer = twin_done (twin_sizes words) (called_twice budget words) c gives text status bytes is answer
@@ -37,6 +40,7 @@ module _ (one_reading : ReadingsAreUnique) (exec_done : ExecAnswersAreDone) wher
   by_order_done Prove words bytes text status provable answer = prove_done bytes text status provable answer
   by_order_done Image words bytes text status typed answer = let checked = typed_text_is_checked bytes typed in image_done bytes text status checked.0 checked.1 answer
   by_order_done (Exec budget) words bytes text status gives answer = exec_done (called budget words) bytes text status gives answer
+  by_order_done (Calls budget) words bytes text status (short, typed) answer = let checked = typed_text_is_checked (program_in bytes) typed in calls_done budget bytes checked.0 checked.1 text status short answer
 
   pub Answer-complete : (words : List (List ℕ)) (bytes text : List ℕ) (status : Status) → IsComplete words bytes → Answer words bytes text status → status ≡ Done
   unfolding Answer

@@ -1,5 +1,5 @@
 -- What `types` and `code` printed say of the program that the bytes spell.
-use Rattle.std.proofs.Common.{◌≡◌, ℕ, List, [], ◌∷◌, length, codes, slice_get, Some, refl, ap, sym, ◌∙◌, inl, inr}
+use Rattle.std.proofs.Common.{◌≡◌, ℕ, List, [], ◌∷◌, codes, slice_get, Some, refl, ap, sym, ◌∙◌, inl, inr}
 use Rattle.um_tree.specs.ProgramTree.{FunctionTree, ProgramTree}
 use Rattle.um_tree.specs.Formed.{IsFormed}
 use Rattle.um_infer.specs.Inference.{Inference, all_schemes, stops_at_slots, stops_at_range, stops_at_units, stops_at_not_general, infer}
@@ -17,10 +17,10 @@ use Rattle.um_front.proofs.StageLaws.{checked_reached}
 use Rattle.um_answers.specs.TypesAnswer.{IsSchemeList, TypesAnswer}
 use Rattle.um_answers.specs.CodeAnswer.{IsListing, CodeAnswer}
 use Rattle.um_tool.specs.Answer.{Answer}
-use Rattle.um_tool.specs.Laws.{TypesAnswers, PrintedTypesArePrincipalSchemes, UnitsNameTheFirstUntyped, NotGeneralNamesTheFirstUntyped}
+use Rattle.um_tool.specs.Laws.{PrintedTypesArePrincipalSchemes, UnitsNameTheFirstUntyped, NotGeneralNamesTheFirstUntyped}
 use Rattle.um_tool.specs.CallLaws.{PrintedCodeIsTheProgramsCode}
 
-types_ordered : order_of (codes "types" ∷ []) ≡ Some Types
+pub types_ordered : order_of (codes "types" ∷ []) ≡ Some Types
 unfolding order_of
 types_ordered = refl
 
@@ -38,7 +38,7 @@ printed_types_are_principal_schemes bytes text answer =
 -- ---- the first function without a typing
 
 -- the function that is declared at a number is one
-one_function : (p : ProgramTree) (i : ℕ) (f g : FunctionTree) → slice_get p.functions i ≡ Some f → slice_get p.functions i ≡ Some g → f ≡ g
+pub one_function : (p : ProgramTree) (i : ℕ) (f g : FunctionTree) → slice_get p.functions i ≡ Some f → slice_get p.functions i ≡ Some g → f ≡ g
 one_function p i f g a b = let e : Some f ≡ Some g = sym a ∙ b in cc e
 
 module _ (bytes text : List ℕ) where

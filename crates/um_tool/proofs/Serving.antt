@@ -3,16 +3,18 @@ use Rattle.std.proofs.Common.{◌≡◌, ℕ, ◌<◌, ◌≤◌, List, [], leng
 use Rattle.std.specs.Prelude.{IsErrOf}
 use Rattle.std.specs.declared.option.Option.{Option}
 use Rattle.um_wire.specs.Faults.{Rose}
-use Rattle.um_wire.specs.Bytes.{Tells, TellsMoreThan, AppendsPrefix}
+use Rattle.um_wire.specs.Bytes.{Tells, TellsMoreThan}
 use Rattle.um_wire.specs.declared.read.ReadStop.{ReadStop}
 use Rattle.um_wire.specs.declared.read.ReadStop.TheVariants.{TooLong as TooLongToRead, Failed as ReadFailed, NoMemory as OutOfMemory}
 use Rattle.um_orders.specs.declared.order.Order.{Order}
-use Rattle.um_orders.specs.declared.order.Order.TheVariants.{Big, Exec}
+use Rattle.um_orders.specs.declared.order.Order.TheVariants.{Big}
+use Rattle.um_orders.specs.declared.order.BytesOrder.{BytesOrder}
+use Rattle.um_orders.specs.declared.order.BytesOrder.TheVariants as bytes_order
 use Rattle.um_orders.specs.declared.order.TextOrder.{TextOrder}
 use Rattle.um_orders.specs.declared.order.TextOrder.TheVariants as text_order
-use Rattle.um_orders.specs.Orders.{order_of, intake_of, order_about}
+use Rattle.um_orders.specs.Orders.{order_of, intake_of, order_about, order_about_bytes}
 use Rattle.um_reports.specs.declared.status.Status.{Status}
-use Rattle.um_reports.specs.declared.status.Status.TheVariants.{Usage, TooLong, ReadFault, WriteFault}
+use Rattle.um_reports.specs.declared.status.Status.TheVariants.{Usage, TooLong, ReadFault, WriteFault, NoMemory}
 use Rattle.um_reports.specs.Refusals.{IsReadReply}
 use Rattle.um_reports.specs.Steps.{IsReply, line}
 use Rattle.um_reports.proofs.ReportStatuses.{is_answered}
@@ -20,6 +22,7 @@ use Rattle.um_front.proofs.TooLongTexts.{too_long_unread, too_long_unshaped, too
 use Rattle.um_answers.specs.TypesAnswer.{TypesAnswer}
 use Rattle.um_answers.specs.CodeAnswer.{CodeAnswer}
 use Rattle.um_answers.specs.FmtAnswer.{FmtAnswer}
+use Rattle.um_answers.specs.TidyAnswer.{TidyAnswer}
 use Rattle.um_answers.specs.ConformAnswer.{ConformAnswer}
 use Rattle.um_answers.specs.RescaleAnswer.{RescaleAnswer}
 use Rattle.um_answers.specs.ProveAnswer.{ProveAnswer}
@@ -28,9 +31,11 @@ use Rattle.um_call_answers.specs.CallAnswer.{CallAnswer}
 use Rattle.um_call_answers.specs.TwinAnswer.{TwinAnswer}
 use Rattle.um_call_answers.specs.BigAnswer.{BigAnswer}
 use Rattle.um_call_answers.specs.ExecAnswer.{BytesAnswer, ExecAnswer}
+use Rattle.um_call_answers.specs.CallsAnswer.{SourceAnswer, CallsAnswer}
+use Rattle.um_trace_answers.specs.TraceAnswer.{TraceAnswer}
 use Rattle.um_tool.specs.Asked.{called}
 use Rattle.um_tool.specs.Answer.{Answer, ByOrder}
-use Rattle.um_tool.specs.Served.{TakesSome, IsPlanned, Reads, Serves}
+use Rattle.um_tool.specs.Served.{TakesSome, IsPlanned, Reads}
 use Rattle.um_tool.proofs.Statuses.{Answer-status}
 
 -- some bytes that the source may have left
@@ -65,13 +70,15 @@ generated_planned words left before now n text status ordered answer =
 
 -- a text that is too long is refused, whatever is asked of it
 too_long : (order : TextOrder) (words : List (List ℕ)) (bytes text : List ℕ) (status : Status) → 1048576 < length bytes → IsReply text status (line (codes "error 2: text too long")) TooLong → ByOrder (order_about order) words bytes text status
-unfolding TypesAnswer CodeAnswer FmtAnswer CallAnswer ConformAnswer RescaleAnswer TwinAnswer ProveAnswer ImageAnswer
+unfolding TypesAnswer CodeAnswer FmtAnswer TidyAnswer CallAnswer TraceAnswer ConformAnswer RescaleAnswer TwinAnswer ProveAnswer ImageAnswer
 too_long text_order.Types words bytes text status long reply = inr (too_long_unchecked bytes text status long reply)
 too_long text_order.Code words bytes text status long reply = inr (too_long_unchecked bytes text status long reply)
 too_long text_order.Fmt words bytes text status long reply = inr (too_long_unread bytes text status long reply)
+too_long text_order.Tidy words bytes text status long reply = inr (too_long_unread bytes text status long reply)
 too_long (text_order.Run budget) words bytes text status long reply = inr (too_long_unchecked bytes text status long reply)
 too_long (text_order.Steps budget) words bytes text status long reply = inr (too_long_unchecked bytes text status long reply)
 too_long (text_order.Eval budget) words bytes text status long reply = inr (too_long_unchecked bytes text status long reply)
+too_long (text_order.Trace budget) words bytes text status long reply = inr (too_long_unchecked bytes text status long reply)
 too_long text_order.Conform words bytes text status long reply = inr (too_long_unchecked bytes text status long reply)
 too_long text_order.Rescale words bytes text status long reply = inr (too_long_unchecked bytes text status long reply)
 too_long (text_order.Twin budget) words bytes text status long reply = inr (too_long_unchecked bytes text status long reply)
@@ -82,9 +89,11 @@ text_takes : (order : TextOrder) → TakesSome (intake_of (order_about order))
 text_takes text_order.Types = tt
 text_takes text_order.Code = tt
 text_takes text_order.Fmt = tt
+text_takes text_order.Tidy = tt
 text_takes (text_order.Run budget) = tt
 text_takes (text_order.Steps budget) = tt
 text_takes (text_order.Eval budget) = tt
+text_takes (text_order.Trace budget) = tt
 text_takes text_order.Conform = tt
 text_takes text_order.Rescale = tt
 text_takes (text_order.Twin budget) = tt
@@ -105,23 +114,35 @@ unread_planned result OutOfMemory words left before now order text status ordere
 
 -- ---- bytes as they are
 
-pub bytes_read : (words : List (List ℕ)) (budget : ℕ) → order_of words ≡ Some (Exec budget) → Reads words
-bytes_read words budget ordered = record { order = Exec budget; ordered = ordered; some = tt }
+-- what is asked of them, if they are not too many
+abbrev pub OfBytes : BytesOrder → List (List ℕ) → List ℕ → List ℕ → Status → Type 0
+OfBytes (bytes_order.Exec budget) words bytes text status = BytesAnswer (called budget words) bytes text status
+OfBytes (bytes_order.Calls budget) words bytes text status = SourceAnswer budget bytes text status
 
-module _ (words : List (List ℕ)) (left : Option (List ℕ)) (before now budget : ℕ) (ordered : order_of words ≡ Some (Exec budget)) where
-  pub bytes_planned : (bytes text : List ℕ) (status : Status) → Tells left bytes → length bytes ≤ 16777216 → BytesAnswer (called budget words) bytes text status → IsPlanned words left before now text status
-  unfolding ExecAnswer
-  bytes_planned bytes text status told short answer =
-      let past : 16777216 < length bytes → ⊥ = λ h. omega arith in
-      order_planned words left before now (Exec budget) bytes text status ordered told (inr (past, answer))
+pub few_bytes : (order : BytesOrder) (words : List (List ℕ)) (bytes text : List ℕ) (status : Status) → length bytes ≤ 16777216 → OfBytes order words bytes text status → ByOrder (order_about_bytes order) words bytes text status
+unfolding ExecAnswer CallsAnswer
+few_bytes (bytes_order.Exec budget) words bytes text status short answer = inr ((λ long. omega (arith, short, long)), answer)
+few_bytes (bytes_order.Calls budget) words bytes text status short answer = inr ((λ long. omega (arith, short, long)), answer)
 
+many_bytes : (order : BytesOrder) (words : List (List ℕ)) (bytes text : List ℕ) (status : Status) → 16777216 < length bytes → IsReply text status (line (codes "error 2: text too long")) TooLong → ByOrder (order_about_bytes order) words bytes text status
+unfolding ExecAnswer CallsAnswer
+many_bytes (bytes_order.Exec budget) words bytes text status long reply = inl (long, reply)
+many_bytes (bytes_order.Calls budget) words bytes text status long reply = inl (long, reply)
+
+bytes_take : (order : BytesOrder) → TakesSome (intake_of (order_about_bytes order))
+bytes_take (bytes_order.Exec budget) = tt
+bytes_take (bytes_order.Calls budget) = tt
+
+pub bytes_read : (words : List (List ℕ)) (order : BytesOrder) → order_of words ≡ Some (order_about_bytes order) → Reads words
+bytes_read words order ordered = record { order = order_about_bytes order; ordered = ordered; some = bytes_take order }
+
+module _ (words : List (List ℕ)) (left : Option (List ℕ)) (before now : ℕ) (order : BytesOrder) (ordered : order_of words ≡ Some (order_about_bytes order)) where
   pub bytes_unread : {T : Type 0} (result : Result T ReadStop) (stop : ReadStop) (text : List ℕ) (status : Status) → result ≡ Err stop → (IsErrOf result TooLongToRead → TellsMoreThan 16777216 left) → (IsErrOf result ReadFailed → Rose before now)
       → IsReadReply stop text status → IsPlanned words left before now text status
-  unfolding ExecAnswer
   bytes_unread result TooLongToRead text status is long rose reply =
       let more = long is in
-      order_planned words left before now (Exec budget) more.bytes text status ordered more.told (inl (more.more, reply))
-  bytes_unread result ReadFailed text status is long rose reply = inr (reply, bytes_read words budget ordered, rose is)
+      order_planned words left before now (order_about_bytes order) more.bytes text status ordered more.told (many_bytes order words more.bytes text status more.more reply)
+  bytes_unread result ReadFailed text status is long rose reply = inr (reply, bytes_read words order ordered, rose is)
   bytes_unread result OutOfMemory text status is long rose reply = absurd reply
 
 -- what is planned with the status of a failed read has its cause
@@ -134,7 +155,13 @@ pub planned_write_fault : (words : List (List ℕ)) (left : Option (List ℕ)) (
 planned_write_fault words left before now text status (inl (bytes, told, answer)) is = let no : IsTrue (is_answered WriteFault) = rw is at (Answer-status words bytes text status answer) in cc
 planned_write_fault words left before now text status (inr (reply, reads, rose)) is = let no : ReadFault ≡ WriteFault = sym reply.1 ∙ is in cc
 
--- a failed write leaves a first part of what was planned
-pub served_in_part : (Planned : List ℕ → Status → Type 0) (old new : Option (List ℕ)) (before now : ℕ) (text : List ℕ) (meant : Status) → Planned text meant → AppendsPrefix old new text → Rose before now → Serves Planned old new before now WriteFault
-served_in_part Planned old new before now text meant planned written rose =
-    inr (inl (record { text = text; meant = meant; planned = planned; written = written; rose = rose; fault = refl }))
+-- nor with that of want of memory
+pub planned_no_memory : (words : List (List ℕ)) (left : Option (List ℕ)) (before now : ℕ) (text : List ℕ) (status : Status) → IsPlanned words left before now text status → status ≡ NoMemory → ⊥
+planned_no_memory words left before now text status (inl (bytes, told, answer)) is = let no : IsTrue (is_answered NoMemory) = rw is at (Answer-status words bytes text status answer) in cc
+planned_no_memory words left before now text status (inr (reply, reads, rose)) is = let no : ReadFault ≡ NoMemory = sym reply.1 ∙ is in cc no
+
+-- a source that isn't read, and whose fault isn't told, met none
+pub unread_calm : {T : Type 0} (result : Result T ReadStop) (stop : ReadStop) (before now : ℕ) (text : List ℕ) (status : Status) → result ≡ Err stop → ((IsErrOf result ReadFailed → ⊥) → now ≡ before) → IsReadReply stop text status → (status ≡ ReadFault → ⊥) → now ≡ before
+unread_calm result TooLongToRead before now text status is calm reply other = calm (λ failed. cc (is, failed))
+unread_calm result ReadFailed before now text status is calm reply other = absurd (other reply.1)
+unread_calm result OutOfMemory before now text status is calm reply other = absurd reply

@@ -1,5 +1,5 @@
 -- What answers to `rescale` and `twin` say of the program that the bytes spell.
-use Rattle.std.proofs.Common.{◌≡◌, ℕ, IsTrue, List, map, Option, Result, Ok, Err, Some, None, MatchOption, refl, subst}
+use Rattle.std.proofs.Common.{◌≡◌, ℕ, IsTrue, List, map, Option, Result, Ok, Err, Some, None, MatchOption, inl, inr, refl, subst}
 use Rattle.um_frac.specs.declared.number.Frac.{Frac}
 use Rattle.um_tree.specs.ValueTree.{without_units}
 use Rattle.um_tree.specs.ProgramTree.{ProgramTree}
@@ -16,19 +16,18 @@ use Rattle.um_sizes.specs.declared.read.ScalesRefusal.{ScalesRefusal}
 use Rattle.um_sizes.specs.declared.read.ScalesRefusal.TheVariants.{NoBaseUnit, NoMemory}
 use Rattle.um_sizes.specs.BaseSizes.{AreScalesRead}
 use Rattle.um_sizes.proofs.UniqueSizes.{scales_are_positive}
-use Rattle.um_run.specs.declared.call.CallRefusal.{CallRefusal}
-use Rattle.um_run.specs.Calls.{CallTree, call_values, IsCallOf}
+use Rattle.um_run.specs.Calls.{CallTree, call_values}
 use Rattle.um_run.proofs.CallLaws.{calls_are_typed}
 use Rattle.um_reports.specs.declared.status.Status.{Status}
 use Rattle.um_reports.specs.declared.status.Status.TheVariants.{Done, Input, ScaleRange}
 use Rattle.um_reports.specs.ScaleRefusals.{IsLiteralReply, IsMisfitReply}
 use Rattle.um_front.specs.Stages.{CheckedTree, IsCheckedText}
-use Rattle.um_front.proofs.CheckedTexts.{checked_is_known}
+use Rattle.um_front.proofs.CheckedTexts.{checked_is_known, schemes_are_principal}
 use Rattle.um_front.proofs.StageLaws.{checked_reached}
 use Rattle.um_answers.specs.RescaleAnswer.{LiteralsAnswer, BySizes, IsRescaled, RescaleAnswer}
 use Rattle.um_call_answers.specs.AskedCall.{AskedCall}
-use Rattle.um_call_answers.specs.Passing.{IsAskedCall}
-use Rattle.um_call_answers.specs.TwinAnswer.{TwinRunAnswer, misfit_among, rescaled_values, InputsAnswer, TwinLiteralsAnswer, ByTwinCall, SizedAnswer, ByTwinSizes, IsTwinAnswer, TwinAnswer}
+use Rattle.um_call_answers.specs.OfCall.{IsAskedCall}
+use Rattle.um_call_answers.specs.TwinAnswer.{TwinRunAnswer, misfit_among, rescaled_values, InputsAnswer, TwinLiteralsAnswer, SizedAnswer, ByTwinSizes, IsTwinAnswer, TwinAnswer}
 use Rattle.um_call_answers.proofs.TwinArguments.{all_fit}
 use Rattle.um_tool.specs.Asked.{rescale_sizes, twin_sizes, called_twice}
 use Rattle.um_tool.specs.Answer.{Answer}
@@ -41,10 +40,9 @@ abbrev in_sizes : (word bytes : List ℕ) (c : CheckedTree) → IsCheckedText by
 in_sizes word bytes c is cs read fit = record {
   checked = c;
   spelled = is;
-  stated = read.sizes;
-  read = read.stated;
   scales = cs;
-  sized = read.read.1;
+  read = read;
+  fit = fit;
   other = rescaled_program cs c.text.program;
   rescaled = program_rescaled cs (scales_are_positive c.text.program.bases word cs read) c.text.program fit;
 }
@@ -83,6 +81,43 @@ rescaled_texts_are_rescaled words bytes text ordered answer =
     answered_says (rescale_sizes words) bytes text given
 
 -- ---- `twin`
+
+-- both runs of a call whose numbers have rescaled ones in range
+module _ (word : List ℕ) (asked : AskedCall) (bytes text : List ℕ) (status : Status) (c : CheckedTree) (is : IsCheckedText bytes c) (cs : List Frac) (read : AreScalesRead c.text.program.bases word (Ok cs)) where
+  pub runs_related : (call : CallTree) → IsAskedCall asked c call → misfit_in cs c.text.program.functions ≡ None → misfit_among cs call.inputs ≡ None → TwinRunAnswer asked.budget cs c.text.program call text status → IsTwinCall word asked bytes text status
+  unfolding TwinRunAnswer
+  runs_related call named fit all (o, meant, e, also, printed) =
+      let p = c.text.program in
+      let known = checked_is_known bytes c is in
+      let typed = calls_are_typed p c.text.abbreviations c.schemes asked.name asked.texts known call named in
+      let above : AreSizes cs = scales_are_positive p.bases word cs read in
+      let q = rescaled_program cs p in
+      let rescaled = program_rescaled cs above p fit in
+      let inputs = all_rescaled cs above call.inputs (all_fit cs call.inputs all) in
+      let js = map (rescaled_input cs) call.inputs in
+      record {
+        both = in_sizes word bytes c is cs read fit;
+        principal = schemes_are_principal bytes c is;
+        call = call;
+        named = named;
+        typed = typed;
+        fit = all;
+        others = js;
+        rescaled = inputs;
+        first = o;
+        meant = meant;
+        second = e;
+        also_meant = also;
+        related =
+            twins_are_scaled p q (sizes cs) call.function call.inputs js call.type o e known.formed rescaled inputs typed.type
+            (λ f r g t s. scaling_law p q (sizes cs) call.function g (map without_units call.inputs) (map without_units js) asked.budget o e f (sizes_positive cs above) r t s meant also);
+        free_zeros = λ v w first second.
+            twins_have_free_zeros p q (sizes cs) call.function call.inputs js call.type asked.budget v w (sizes_positive cs above) known.formed rescaled typed.inputs inputs typed.type
+            (subst (λ x. outcome_of_call p call.function (call_values call) asked.budget ≡ Some x) first meant)
+            (subst (λ x. outcome_of_call q call.function (rescaled_values cs call) asked.budget ≡ Some x) second also);
+        printed = printed;
+      }
+
 module _ (word : List ℕ) (asked : AskedCall) (bytes text : List ℕ) (status : Status) (ends : IsTrue (ends_a_call status)) where
   abbrev IsRelated : Type 0
   IsRelated = IsTwinCall word asked bytes text status
@@ -91,40 +126,11 @@ module _ (word : List ℕ) (asked : AskedCall) (bytes text : List ℕ) (status :
     abbrev p : ProgramTree
     p = c.text.program
 
-    runs_related : (call : CallTree) → IsAskedCall asked c call → misfit_in cs p.functions ≡ None → misfit_among cs call.inputs ≡ None → TwinRunAnswer asked.budget cs p call text status → IsRelated
-    unfolding TwinRunAnswer
-    runs_related call named fit all (o, meant, e, also, printed) =
-        let known = checked_is_known bytes c is in
-        let typed = calls_are_typed p c.text.abbreviations c.schemes asked.name asked.texts known call named in
-        let above : AreSizes cs = scales_are_positive p.bases word cs read in
-        let q = rescaled_program cs p in
-        let rescaled = program_rescaled cs above p fit in
-        let inputs = all_rescaled cs above call.inputs (all_fit cs call.inputs all) in
-        let js = map (rescaled_input cs) call.inputs in
-        record {
-          both = in_sizes word bytes c is cs read fit;
-          call = call;
-          named = named;
-          typed = typed;
-          first = o;
-          meant = meant;
-          second = e;
-          also_meant = also;
-          related =
-              twins_are_scaled p q (sizes cs) call.function call.inputs js call.type o e known.formed rescaled inputs typed.type
-              (λ f r g t s. scaling_law p q (sizes cs) call.function g (map without_units call.inputs) (map without_units js) asked.budget o e f (sizes_positive cs above) r t s meant also);
-          free_zeros = λ v w first second.
-              twins_have_free_zeros p q (sizes cs) call.function call.inputs js call.type asked.budget v w (sizes_positive cs above) known.formed rescaled typed.inputs inputs typed.type
-              (subst (λ x. outcome_of_call p call.function (call_values call) asked.budget ≡ Some x) first meant)
-              (subst (λ x. outcome_of_call q call.function (rescaled_values cs call) asked.budget ≡ Some x) second also);
-          printed = printed;
-        }
-
     inputs_related : (call : CallTree) → IsAskedCall asked c call → misfit_in cs p.functions ≡ None → InputsAnswer asked.budget cs p call text status → IsRelated
     unfolding InputsAnswer
     inputs_related call named fit answer = by (misfit_among cs call.inputs) refl answer where
       by : (m : Option ℕ) → misfit_among cs call.inputs ≡ m → MatchOption m (TwinRunAnswer asked.budget cs p call text status) (λ k. IsMisfitReply k text status) → IsRelated
-      by None all says = runs_related call named fit all says
+      by None all says = runs_related word asked bytes text status c is cs read call named fit all says
       by (Some k) misfit reply = absurd (refuted ends_a_call status ScaleRange reply.1 refl ends)
 
     literals_related : (call : CallTree) → IsAskedCall asked c call → TwinLiteralsAnswer asked.budget cs bytes p call text status → IsRelated
@@ -134,13 +140,10 @@ module _ (word : List ℕ) (asked : AskedCall) (bytes text : List ℕ) (status :
       by None fit says = inputs_related call named fit says
       by (Some at) misfit reply = absurd (refuted ends_a_call status ScaleRange reply.1 refl ends)
 
-    call_related : (r : Result CallTree CallRefusal) → IsCallOf p c.text.abbreviations c.schemes asked.name asked.texts r → ByTwinCall cs asked bytes p r text status → IsRelated
-    call_related (Ok call) named answer = literals_related call named answer
-    call_related (Err refused) named reply = absurd (call_refusal asked.texts refused text status reply ends)
-
     sized_related : SizedAnswer cs asked bytes c text status → IsRelated
     unfolding SizedAnswer
-    sized_related (r, named, answer) = call_related r named answer
+    sized_related (inl (call, named, answer)) = literals_related call named answer
+    sized_related (inr (refused, named, reply)) = absurd (call_refusal asked.texts refused text status reply ends)
 
   sizes_related : (c : CheckedTree) → IsCheckedText bytes c → (r : Result (List Frac) ScalesRefusal) → AreScalesRead c.text.program.bases word r → ByTwinSizes asked bytes c r text status → IsRelated
   sizes_related c is (Ok cs) read answer = sized_related c is cs read answer

@@ -2,6 +2,7 @@
 -- Source: principal schemes and typings are Kennedy's (1996); the rest is this project's own.
 use Rattle.std.specs.Prelude.{ℕ, ◌≡◌, ◌⊎◌, Bool, true, false, IsTrue, List, [], ◌∷◌, ◌++◌, length, chars, codes, Some}
 use Rattle.std.specs.Prelude.{Ok, Option}
+use Rattle.std.specs.Str.{IsUtf8}
 use Rattle.um_tree.specs.TypeTree.{type_trees}
 use Rattle.um_tree.specs.ValueTree.{ValueTree, OutcomeTree, value_outcome}
 use Rattle.um_tree.specs.Meaning.{outcome_of_call}
@@ -15,18 +16,19 @@ use Rattle.um_run.specs.Laws.{IsTypedCall}
 use Rattle.um_sig.specs.declared.signature.Signature.{Signature}
 use Rattle.um_sig.specs.Reading.{IsRead}
 use Rattle.um_sig.specs.Instances.{AreAllTypings}
+use Rattle.um_lines.specs.Sources.{program_in, calls_of, words_in}
 use Rattle.um_orders.specs.declared.order.Order.{Order}
 use Rattle.um_orders.specs.declared.order.Order.TheVariants.{Run, Steps, Eval, Conform}
 use Rattle.um_orders.specs.Orders.{order_of}
 use Rattle.um_reports.specs.declared.status.Status.{Status}
 use Rattle.um_reports.specs.declared.status.Status.TheVariants.{Done, Trap, BudgetEnd, NotConform}
-use Rattle.um_reports.specs.Steps.{line}
+use Rattle.um_reports.specs.Steps.{line, Cases}
 use Rattle.um_front.specs.Stages.{CheckedTree, IsCheckedText}
 use Rattle.um_call_answers.specs.declared.way.Way.{Way}
 use Rattle.um_call_answers.specs.declared.way.Way.TheVariants as way
 use Rattle.um_call_answers.specs.AskedCall.{AskedCall}
 use Rattle.um_call_answers.specs.CallAnswer.{AreSteps, IsOutcomeReply}
-use Rattle.um_call_answers.specs.Passing.{IsAskedCall}
+use Rattle.um_call_answers.specs.OfCall.{IsAskedCall}
 use Rattle.um_tool.specs.Asked.{called, held_name, signature_text}
 use Rattle.um_tool.specs.Answer.{Answer}
 
@@ -53,9 +55,9 @@ ends_a_call Trap = true
 ends_a_call BudgetEnd = true
 ends_a_call status = false
 
--- This is a call in the program that the bytes spell, given its principal schemes; the call has a type, and the text and
--- the status are those of its meaning's outcome at the budget, with the steps of the code's run if they are counted. A
--- number of its value is 0 if its unit isn't closed.
+-- This is a call in the program that the bytes spell, given its principal schemes; the call has a type, and the text
+-- and the status are those of its meaning's outcome at the budget, with the steps of the code's run if they are
+-- counted. A number of its value is 0 if its unit isn't closed.
 pub record IsMeantCall (way : Way) (asked : AskedCall) (bytes text : List ℕ) (status : Status) : Type 0 where
   pub checked : CheckedTree
   pub spelled : IsCheckedText bytes checked
@@ -76,6 +78,32 @@ EndedCallsAreMeant =
     (order : Order) (w : Way) (budget : ℕ) (words : List (List ℕ)) (bytes text : List ℕ) (status : Status) →
     IsCall order w budget → order_of words ≡ Some order → Answer words bytes text status →
     IsTrue (ends_a_call status) → IsMeantCall w (called budget words) bytes text status
+
+-- ---- many calls
+
+-- the words of `run` at the budget that a word states, with the words of a line after it
+abbrev pub run_words : List ℕ → List ℕ → List (List ℕ)
+run_words budget bytes = codes "run" ∷ budget ∷ words_in bytes
+
+-- The text is what `run` answers with the words of the line on the program. An empty line has an empty line, and one that
+-- isn't UTF-8 the line for words of no command.
+abbrev pub IsRunOf : List ℕ → List ℕ → List ℕ → List ℕ → Type 0
+IsRunOf budget program bytes text = Cases (bytes ≡ []) (text ≡ line [])
+    (Cases (IsUtf8 bytes) ((status : Status) × Answer (run_words budget bytes) program text status)
+    (text ≡ line (codes "error 1: usage")))
+
+-- line by line
+abbrev pub AreRunsOf : List ℕ → List ℕ → List (List ℕ) → List ℕ → Type 0
+AreRunsOf budget program [] text = text ≡ []
+AreRunsOf budget program (bytes ∷ more) text =
+    (first rest : List ℕ) × IsRunOf budget program bytes first × AreRunsOf budget program more rest
+    × (text ≡ first ++ rest)
+
+-- What `calls` answers with status 0 is, line by line, what `run` answers with the words of the line on the program.
+abbrev pub CallsAreRuns : Type 0
+CallsAreRuns =
+    (budget bytes text : List ℕ) → Answer (codes "calls" ∷ budget ∷ []) bytes text Done →
+    AreRunsOf budget (program_in bytes) (calls_of bytes) text
 
 -- ---- signatures
 

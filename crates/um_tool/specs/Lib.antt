@@ -7,3 +7,7 @@ pub mod Served
 pub mod Laws
 pub mod CallLaws
 pub mod ScaleLaws
+pub mod ImageLaws
+pub mod Verdicts
+pub mod CertificateLaws
+pub mod Headline

@@ -1,7 +1,7 @@
 -- What a run of the program writes, and with which status it ends.
 -- Source: this project's own.
-use Rattle.std.specs.Prelude.{◌≡◌, ◌⊎◌, ℕ, List, codes, Some, Option}
-use Rattle.std.specs.Io.KnownBytes.{Appends, Keeps}
+use Rattle.std.specs.Prelude.{◌≡◌, ◌⊎◌, ℕ, List, [], codes, Some, Option}
+use Rattle.std.specs.Io.KnownBytes.{Appends}
 use Rattle.um_wire.specs.Faults.{Rose}
 use Rattle.um_wire.specs.Bytes.{Tells, AppendsPrefix}
 use Rattle.um_orders.specs.declared.order.Order.{Order}
@@ -32,11 +32,14 @@ IsPlanned words left before now text status =
     ((bytes : List ℕ) × Tells left bytes × Answer words bytes text status)
     ⊎ (IsReply text status (line (codes "error 15: read")) ReadFault × Reads words × Rose before now)
 
--- all of the planned text was written
-pub record WroteAll (Planned : List ℕ → Status → Type 0) (old new : Option (List ℕ)) (status : Status) : Type 0 where
+-- all of the planned text was written; if it is empty, the sink is as it was
+pub record WroteAll
+    (Planned : List ℕ → Status → Type 0) (Untouched : Type 0) (old new : Option (List ℕ)) (status : Status)
+    : Type 0 where
   pub text : List ℕ
   pub planned : Planned text status
   pub written : Appends old new text
+  pub idle : text ≡ [] → Untouched
 
 -- a first part of the planned text was written, and the sink's count rose
 pub record WrotePart
@@ -48,15 +51,16 @@ pub record WrotePart
   pub rose : Rose before now
   pub fault : status ≡ WriteFault
 
--- nothing was written for want of memory
-pub record WroteNothing (old new : Option (List ℕ)) (status : Status) : Type 0 where
-  pub kept : Keeps old new
+-- memory was wanting, and the sink is as it was
+pub record WroteNothing (Untouched : Type 0) (status : Status) : Type 0 where
+  pub untouched : Untouched
   pub fault : status ≡ NoMemory
 
 -- the bytes added to the sink and the status are one of these pairs
-abbrev pub Serves : (List ℕ → Status → Type 0) → Option (List ℕ) → Option (List ℕ) → ℕ → ℕ → Status → Type 0
-Serves Planned old new before now status =
-    WroteAll Planned old new status ⊎ WrotePart Planned old new before now status ⊎ WroteNothing old new status
+abbrev pub Serves : (List ℕ → Status → Type 0) → Type 0 → Option (List ℕ) → Option (List ℕ) → ℕ → ℕ → Status → Type 0
+Serves Planned Untouched old new before now status =
+    WroteAll Planned Untouched old new status ⊎ WrotePart Planned old new before now status
+    ⊎ WroteNothing Untouched status
 
 -- the words name an order, and every step of its answer goes through
 pub record IsComplete (words : List (List ℕ)) (bytes : List ℕ) : Type 0 where

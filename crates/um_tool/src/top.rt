@@ -1,24 +1,24 @@
 // The top call.
-ghost use Rattle.std.specs.Prelude.{◌≡◌, ◌≢◌, ◌≤◌, IfOk, Some};
+ghost use Rattle.std.specs.Prelude.{◌≡◌, ◌≢◌, ℕ, IfOk, List, Some};
 ghost use Rattle.um_wire.specs.Faults.{Rose};
-ghost use Rattle.um_orders.specs.Orders.{order_of as order_named, order_about};
+ghost use Rattle.um_orders.specs.Orders.{order_of as order_named, order_about, order_about_bytes};
 ghost use Rattle.um_tool.specs.Served.{IsPlanned, IsUndisturbed, Reads, Serves};
+ghost use Rattle.um_tool.specs.Headline.{IsCalm, ServesHeadline};
 
-use crate::dispatch::answer_text;
-use crate::words::called;
+use crate::dispatch::{answer_bytes, answer_text};
 use std::alloc::Global;
+use um_call_answers::answer_big;
 use um_call_answers::laws::answers_of_images;
-use um_call_answers::{answer_big, answer_exec};
 use um_front::{Answer, Reading};
-use um_orders::{Intake, Order, TextOrder, Words, order_of};
+use um_orders::{BytesOrder, Intake, Order, TextOrder, Words, order_of};
 use um_reports::{Status, reply_line, reply_to_unread};
 use um_wire::{Failed, Sink, Source, read_into, read_text, write_all};
 
 /// The longest text that is read, in bytes.
 const TEXT_LIMIT: usize = 1_048_576;
 
-/// The longest image that is read, in bytes.
-const IMAGE_LIMIT: usize = 16_777_216;
+/// The most bytes that are read as they are: those of an image, or of a program and its calls.
+const BYTES_LIMIT: usize = 16_777_216;
 
 /// All that the program does: it reads what the words ask for, and writes the answer and nothing else.
 ///
@@ -30,17 +30,33 @@ pub fn serve<S: Source, K: Sink>(
     sink: &mut K,
 ) -> Status
     // The bytes that were added to the sink and the status are one of four pairs: an answer, the line on a failed
-    // read, a prefix of one of these if a write failed, nothing if memory was wanting.
+    // read, a prefix of one of these if a write failed, nothing if memory was wanting. An empty answer and want of
+    // memory leave the sink as it was.
     ensures served { Serves (IsPlanned words.now (S.left source.old) (S.faults source.old) (S.faults source.new))
+        (sink.new ≡ sink.old)
         (K.taken sink.old) (K.taken sink.new) (K.faults sink.old) (K.faults sink.new) result }
+
+    // Want of memory leaves the sink as it was, whatever it tells.
+    ensures untouched { result ≡ Status.NoMemory → sink.new ≡ sink.old }
 
     // A fault of reading or writing is told only if the count of the source or the sink rose.
     ensures read_fault { result ≡ Status.ReadFault → Rose (S.faults source.old) (S.faults source.new) }
     ensures write_fault { result ≡ Status.WriteFault → Rose (K.faults sink.old) (K.faults sink.new) }
 
+    // A count that rose is told: after any other status than that of a failed write the sink's is as it was, and so is
+    // the source's, after any other than those of a failed read or write and of want of memory.
+    ensures writes_told { result ≢ Status.WriteFault → K.faults sink.new ≡ K.faults sink.old }
+    ensures reads_told { result ≢ Status.ReadFault → result ≢ Status.WriteFault → result ≢ Status.NoMemory
+        → S.faults source.new ≡ S.faults source.old }
+
     // If every step goes through and nothing fails, the order is done, or memory was wanting.
     ensures complete { IsUndisturbed words.now (S.left source.old) (S.faults source.old) (S.faults source.new)
         → ¬ (Rose (K.faults sink.old) (K.faults sink.new)) → result ≢ Status.NoMemory → result ≡ Status.Done }
+
+    // If the source tells its bytes, nothing fails and memory suffices, what was written says what the headline says.
+    ensures headline { (bytes : List ℕ) → IsCalm (S.left source.old) bytes (S.faults source.old) (S.faults source.new)
+        (K.faults sink.old) (K.faults sink.new) result
+        → ServesHeadline words.now bytes (K.taken sink.old) (K.taken sink.new) result }
 
     // Words that ask for no read leave the source as it was.
     ensures unread { (Reads words.now → ⊥) → source.new ≡ source.old }
@@ -60,7 +76,10 @@ fn reply_to<S: Source>(alloc: Global, words: &Words, source: &mut S) -> Answer
         (S.faults source.old) (S.faults source.new) reply.text.items reply.status) }
     ensures read_fault { IfOk result (λ reply. reply.status ≡ Status.ReadFault
         → Rose (S.faults source.old) (S.faults source.new)) }
+    ensures reads_told { IfOk result (λ reply. reply.status ≢ Status.ReadFault
+        → S.faults source.new ≡ S.faults source.old) }
     ensures not_write_fault { IfOk result (λ reply. reply.status ≢ Status.WriteFault) }
+    ensures not_no_memory { IfOk result (λ reply. reply.status ≢ Status.NoMemory) }
     ensures complete { IfOk result (λ reply. IsUndisturbed words.now (S.left source.old) (S.faults source.old)
         (S.faults source.new)
         → reply.status ≡ Status.Done) }
@@ -78,12 +97,14 @@ fn reply_to_order<S: Source>(alloc: Global, order: Order, words: &Words, source:
     requires ordered { order_named words.now ≡ Some order }
     ensures planned { IfOk result (λ reply. IsPlanned words.now (S.left source.old)
         (S.faults source.old) (S.faults source.new) reply.text.items reply.status) }
+    ensures reads_told { IfOk result (λ reply. reply.status ≢ Status.ReadFault
+        → S.faults source.new ≡ S.faults source.old) }
     ensures unread { (Reads words.now → ⊥) → source.new ≡ source.old }
 {
     match order.intake() {
         Intake::Generated { functions } => answer_big(alloc, functions),
         Intake::Text(order) => reply_to_text(alloc, order, words, source),
-        Intake::Bytes { budget } => reply_to_bytes(alloc, budget, words, source),
+        Intake::Bytes(order) => reply_to_bytes(alloc, order, words, source),
     }
 }
 
@@ -95,8 +116,10 @@ fn reply_to_text<S: Source>(
     source: &mut S,
 ) -> Answer
     requires ordered { order_named words.now ≡ Some (order_about order) }
-    ensures { IfOk result (λ reply. IsPlanned words.now (S.left source.old)
+    ensures planned { IfOk result (λ reply. IsPlanned words.now (S.left source.old)
         (S.faults source.old) (S.faults source.new) reply.text.items reply.status) }
+    ensures reads_told { IfOk result (λ reply. reply.status ≢ Status.ReadFault
+        → S.faults source.new ≡ S.faults source.old) }
 {
     let mut reading = Reading::new(alloc);
     match read_into(source, TEXT_LIMIT, &mut reading) {
@@ -105,14 +128,21 @@ fn reply_to_text<S: Source>(
     }
 }
 
-/// What the run is about to write if a function of an image is called.
-fn reply_to_bytes<S: Source>(alloc: Global, budget: u64, words: &Words, source: &mut S) -> Answer
-    requires ordered { order_named words.now ≡ Some (Order.Exec budget) }
-    ensures { IfOk result (λ reply. IsPlanned words.now (S.left source.old)
+/// What the run is about to write if this is asked of bytes.
+fn reply_to_bytes<S: Source>(
+    alloc: Global,
+    order: BytesOrder,
+    words: &Words,
+    source: &mut S,
+) -> Answer
+    requires ordered { order_named words.now ≡ Some (order_about_bytes order) }
+    ensures planned { IfOk result (λ reply. IsPlanned words.now (S.left source.old)
         (S.faults source.old) (S.faults source.new) reply.text.items reply.status) }
+    ensures reads_told { IfOk result (λ reply. reply.status ≢ Status.ReadFault
+        → S.faults source.new ≡ S.faults source.old) }
 {
-    match read_text(alloc, source, IMAGE_LIMIT) {
-        Ok(bytes) => answer_exec(alloc, &called(words, budget, 2), &bytes),
+    match read_text(alloc, source, BYTES_LIMIT) {
+        Ok(bytes) => answer_bytes(alloc, order, words, &bytes),
         Err(stop) => reply_to_unread(alloc, stop),
     }
 }

@@ -1,8 +1,8 @@
-use Rattle.std.proofs.Common.{[], Some, ap, sym, subst, ◌∙◌, arith, ℕ, List, ◌≤◌, IsTrue, length}
+use Rattle.std.proofs.Common.{[], Some, ap, subst, ◌∙◌, arith, ℕ, List, ◌≤◌, IsTrue, length}
 use Rattle.std.proofs.lemmas.Option.{get_or_from_slice_get}
 use Rattle.um_tree.proofs.Moved.{All_at}
 use Rattle.um_sizes.specs.ScaleWords.{is_scales}
-use Rattle.um_orders.specs.declared.order.Order.TheVariants.{Run, Steps, Eval, Conform, Rescale, Twin}
+use Rattle.um_orders.specs.declared.order.Order.TheVariants.{Run, Steps, Eval, Trace, Conform, Rescale, Twin}
 use Rattle.um_orders.specs.declared.order.TextOrder.{TextOrder}
 use Rattle.um_orders.specs.Orders.{order_about}
 use Rattle.um_orders.proofs.OrderWords.{short_words, words_of_order}
@@ -52,6 +52,21 @@ pub called-requires-in-Eval-clause-short : goal.called-requires-in-Eval-clause-s
 called-requires-in-Eval-clause-short c =
     let named = c.requires.ordered ∙ ap (λ (o : TextOrder). Some (order_about o)) c.in-Eval.is in
     short_words c.args.words.now (Eval c.in-Eval.budget) named
+
+pub called-requires-in-Trace-clause-many : goal.called-requires-in-Trace-clause-many
+called-requires-in-Trace-clause-many c =
+    let named = c.requires.ordered ∙ ap (λ (o : TextOrder). Some (order_about o)) c.in-Trace.is in
+    (words_of_order c.args.words.now (Trace c.in-Trace.budget) named).0
+
+pub called-requires-in-Trace-clause-small : goal.called-requires-in-Trace-clause-small
+called-requires-in-Trace-clause-small c =
+    let named = c.requires.ordered ∙ ap (λ (o : TextOrder). Some (order_about o)) c.in-Trace.is in
+    (words_of_order c.args.words.now (Trace c.in-Trace.budget) named).1
+
+pub called-requires-in-Trace-clause-short : goal.called-requires-in-Trace-clause-short
+called-requires-in-Trace-clause-short c =
+    let named = c.requires.ordered ∙ ap (λ (o : TextOrder). Some (order_about o)) c.in-Trace.is in
+    short_words c.args.words.now (Trace c.in-Trace.budget) named
 
 pub called-requires-in-Twin-clause-many : goal.called-requires-in-Twin-clause-many
 called-requires-in-Twin-clause-many c =

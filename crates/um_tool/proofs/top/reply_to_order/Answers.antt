@@ -25,4 +25,4 @@ reply_to_text-requires g c =
 
 pub reply_to_bytes-requires : goal.reply_to_bytes-requires
 reply_to_bytes-requires g c =
-    record { ordered = c.requires.ordered ∙ ap Some (order_of_bytes c.args.order c.in-Bytes.budget (sym c.intake.ensures ∙ c.in-Bytes.is)) }
+    record { ordered = c.requires.ordered ∙ ap Some (order_of_bytes c.args.order c.in-Bytes.order (sym c.intake.ensures ∙ c.in-Bytes.is)) }

@@ -1,8 +1,7 @@
-use Rattle.std.proofs.Common.{◌≡◌, ◌+◌, ◌≤◌, ℕ, List, [], map, string_bytes, drop, length, get_or, sym, subst}
+use Rattle.std.proofs.Common.{◌+◌, ◌≤◌, ℕ, List, [], length, sym, subst}
 use Rattle.std.specs.Prelude.{All}
 use Rattle.std.proofs.lemmas.List.Elements.{All-drop}
 use Rattle.std.proofs.lemmas.Option.{get_or_from_slice_get}
-use Rattle.um_call_answers.specs.AskedCall.{AskedCall}
 use Rattle.um_tool.proofs.words.called.Goals as goal
 
 pub returns-clause-call : goal.returns-clause-call

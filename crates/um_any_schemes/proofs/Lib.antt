@@ -1,0 +1,3 @@
+pub mod ReplacedSteps
+pub mod OtherHoles
+pub mod AnySchemes
