@@ -1,0 +1,197 @@
+/*
+ * Tries the calls of umc.h: answers, refusals, answers of any length, threads, and every allocation failing in turn.
+ *
+ * Linked with -Wl,--wrap=malloc,--wrap=realloc. What it says is one line for each check that fails.
+ */
+#include <pthread.h>
+#include <stdio.h>
+#include <stdlib.h>
+#include <string.h>
+
+#include "umc.h"
+
+enum { THREADS = 8, TIMES = 3, MOST_WORDS = 8 };
+
+static int failed;
+
+static void check(int is_well, const char *what) {
+    if (!is_well) {
+        printf("failed: %s\n", what);
+        failed = 1;
+    }
+}
+
+/* ---- a heap that fails where it is told, in the thread that tells it */
+
+void *__real_malloc(size_t bytes);
+void *__real_realloc(void *block, size_t bytes);
+
+static _Thread_local long asked, fail_at, fail_from;
+
+static int fails(void) {
+    asked++;
+    return asked == fail_at || (fail_from && asked >= fail_from);
+}
+
+void *__wrap_malloc(size_t bytes) {
+    return fails() ? NULL : __real_malloc(bytes);
+}
+
+void *__wrap_realloc(void *block, size_t bytes) {
+    return fails() ? NULL : __real_realloc(block, bytes);
+}
+
+/* ---- questions */
+
+struct question {
+    const char *words[MOST_WORDS];
+    const char *text;
+    int status;
+    const char *answer;
+};
+
+static const char VEHICLE[] = "[<Measure>] type m\n[<Measure>] type ft\n"
+                              "let rec total (l: num<_> list) : num<_> = match l with [] -> 0<_> | x :: r -> x + total r\n"
+                              "let metres (d: num<ft>) = d * 0.3048<m/ft>\n";
+static const char WRONG[] = "[<Measure>] type m\nlet f (x: num<m>) = x + 1\n";
+
+static const struct question QUESTIONS[] = {
+    {{"types"}, VEHICLE, 0, "total : num<'a> list -> num<'a>\nmetres : num<ft> -> num<m>\n"},
+    {{"run", "1", "metres", "10<ft>"}, VEHICLE, 0, "381r125<m>\n"},
+    {{"run", "9", "total", "[1<m>; 2.5<m>]"}, VEHICLE, 0, "7r2<m>\n"},
+    {{"run", "2", "total", "[1; 2]"}, VEHICLE, 13, "error 13: budget\n"},
+    {{"run", "1", "metres", "10<m>"}, VEHICLE, 11, "error 11: units of the arguments\n"},
+    {{"types"}, WRONG, 9, "error 9: units of f at 2:23\n"},
+    {{"types"}, "", 0, ""},
+    {{"types"}, NULL, 0, ""},
+    {{"conform", "metres", "num<ft> -> num<m>"}, VEHICLE, 0, "metres conforms\n"},
+    {{"no such command"}, VEHICLE, 1, "error 1: usage\n"},
+    {{"types", "\xff"}, VEHICLE, 1, "error 1: usage\n"},
+    {{NULL}, VEHICLE, 1, "error 1: usage\n"},
+};
+enum { QUESTION_COUNT = sizeof QUESTIONS / sizeof *QUESTIONS };
+
+static size_t count_of(const struct question *question) {
+    size_t count = 0;
+    while (count < MOST_WORDS && question->words[count]) {
+        count++;
+    }
+    return count;
+}
+
+static int ask(const struct question *question, char **answer, size_t *size) {
+    return umc_answer(question->words, count_of(question), question->text, question->text ? strlen(question->text) : 0,
+                      answer, size);
+}
+
+/* Whether the answer is the one that must come. */
+static int is_well(const struct question *question) {
+    char *answer;
+    size_t size;
+    int status = ask(question, &answer, &size);
+    int well = status == question->status && answer && size == strlen(question->answer) &&
+               strcmp(answer, question->answer) == 0;
+    umc_free(answer);
+    return well;
+}
+
+static void check_answers(void) {
+    for (int at = 0; at < QUESTION_COUNT; at++) {
+        check(is_well(QUESTIONS + at), QUESTIONS[at].answer);
+    }
+}
+
+static void check_bytes(void) {
+    char *answer;
+    size_t size;
+    const char *words[] = {"types"};
+    check(umc_answer(words, 1, "let k = 1\n\0", 11, &answer, &size) == 4, "a zero byte in a text");
+    check(answer && strcmp(answer, "error 4: character at 2:1\n") == 0, "its place");
+    umc_free(answer);
+    check(umc_answer(words, 1, "// caf\xe9", 7, &answer, &size) == 3, "a text that isn't UTF-8");
+    umc_free(answer);
+    check(umc_answer(words, 1, VEHICLE, (size_t)-1, &answer, &size) == UMC_NO_MEMORY && !answer && !size,
+          "a size that no text has");
+    umc_free(NULL);
+    check(strlen(umc_version()) > 0, "the version");
+}
+
+/* A program whose value is twice as long with each line. */
+static void doubling(char *text, int lines) {
+    char *end = text + sprintf(text, "let f (x: num) =\n");
+    for (int line = 0; line < lines; line++) {
+        end += line ? sprintf(end, "  let x%d = [x%d; x%d] in\n", line, line - 1, line - 1)
+                    : sprintf(end, "  let x0 = [x; x] in\n");
+    }
+    sprintf(end, "  x%d\n", lines - 1);
+}
+
+/* An answer that is longer than the room that is tried first. */
+static void check_long(void) {
+    char text[1024], *answer;
+    size_t size;
+    const char *words[] = {"run", "1", "f", "1"};
+    doubling(text, 16);
+    check(umc_answer(words, 4, text, strlen(text), &answer, &size) == 0, "the status of a long answer");
+    check(answer && size > 100000 && strlen(answer) == size && strcmp(answer + size - 3, "]]\n") == 0,
+          "a long answer as a whole");
+    umc_free(answer);
+}
+
+/* Each allocation fails, alone and with all after it: the whole answer comes, or none for want of memory. */
+static void check_failures(const struct question *question) {
+    char *answer;
+    size_t size;
+    asked = 0;
+    ask(question, &answer, &size);
+    umc_free(answer);
+    long calls = asked, refused = 0;
+    for (long at = 1; at <= 2 * calls; at++) {
+        asked = 0;
+        fail_at = at <= calls ? at : 0;
+        fail_from = at <= calls ? 0 : at - calls;
+        int status = ask(question, &answer, &size);
+        fail_at = fail_from = 0;
+        int is_none = status == UMC_NO_MEMORY && !answer && !size;
+        refused += is_none;
+        check(is_none || (status == question->status && answer && strcmp(answer, question->answer) == 0),
+              "an answer with a failed allocation");
+        umc_free(answer);
+    }
+    check(calls > 3 && refused > 0, "that allocations fail");
+    printf("%s: %ld allocations, %ld of %ld refused\n", question->words[0], calls, refused, 2 * calls);
+}
+
+static void *of_thread(void *given) {
+    (void)given;
+    long wrong = 0;
+    for (int time = 0; time < TIMES; time++) {
+        for (int at = 0; at < QUESTION_COUNT; at++) {
+            wrong += !is_well(QUESTIONS + at);
+        }
+    }
+    return (void *)wrong;
+}
+
+static void check_threads(void) {
+    pthread_t threads[THREADS];
+    for (int at = 0; at < THREADS; at++) {
+        check(pthread_create(threads + at, NULL, of_thread, NULL) == 0, "a thread");
+    }
+    for (int at = 0; at < THREADS; at++) {
+        void *wrong;
+        check(pthread_join(threads[at], &wrong) == 0 && !wrong, "the answers in a thread");
+    }
+}
+
+int main(void) {
+    check_answers();
+    check_bytes();
+    check_long();
+    check_failures(QUESTIONS);
+    check_failures(QUESTIONS + 2);
+    check_failures(QUESTIONS + 5);
+    check_threads();
+    puts(failed ? "failed" : "all well");
+    return failed;
+}

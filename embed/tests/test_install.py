@@ -1,0 +1,113 @@
+"""What `make install` and tools/package put down, used from a folder of its own."""
+import os
+import re
+import shlex
+import subprocess
+from pathlib import Path
+
+import pytest
+
+from conftest import DEBIAN, HOME, PROGRAM, VERSION, done, need
+
+
+def asked(document: str) -> list[tuple[str, str]]:
+    """The commands of a document that name a program of the checkout, each with its answer."""
+    found: list[tuple[str, str]] = []
+    inside = None
+    for line in (HOME / document).read_text().splitlines(keepends=True):
+        if line.startswith("```"):
+            inside = None
+        elif line.startswith(("$ ./umc ", "$ ./um ")):
+            found.append((line[2:].rstrip("\n"), ""))
+            inside = True
+        elif inside:
+            found[-1] = (found[-1][0], found[-1][1] + line)
+    return found
+
+
+def check_readme(folder: Path, **environment: str) -> None:
+    """The commands of README give its answers from what is installed in a folder, which has the examples too."""
+    names = {"PATH": f"{folder}/bin:/usr/bin:/bin", "HOME": "/nowhere", "PYTHONDONTWRITEBYTECODE": "1", **environment}
+    commands = asked("README.md")
+    assert len(commands) >= 5
+    for command, answer in commands:
+        words = re.sub(r"\./(umc?)\b", r"\1", command)
+        ran = subprocess.run(["sh", "-c", words], cwd=folder / "share/umc", env=names, stdout=subprocess.PIPE,
+                             stderr=subprocess.STDOUT, text=True)
+        assert ran.stdout.startswith(answer.splitlines(keepends=True)[0]), (command, ran.stdout)
+
+
+def files(folder: Path) -> list[str]:
+    return sorted(str(it.relative_to(folder)) for it in folder.rglob("*") if not it.is_dir() or it.is_symlink())
+
+
+def test_what_is_installed_answers_as_readme_says(installed):
+    # The paths in `um` are those without DESTDIR.
+    check_readme(installed / "usr/local", PYTHONPATH=str(installed / "usr/local/share/umc/python"))
+
+
+def test_all_parts_are_installed(installed):
+    there = files(installed / "usr/local")
+    for name in ("bin/um", "bin/umc", "include/umc.h", "lib/libumc.a", "lib/libumc.so", "lib/libumc.so.1",
+                 f"lib/libumc.so.{VERSION}", "lib/pkgconfig/umc.pc", "share/man/man1/um.1.gz",
+                 "share/man/man1/umc.1.gz", "share/bash-completion/completions/um",
+                 "share/fish/vendor_completions.d/um.fish", "share/umc/library/si.um", "share/umc/python/umc/VERSION",
+                 "share/umc/editors/vim/syntax/um.vim", "share/umc/examples/embed/call.c"):
+        assert name in there
+    assert not [name for name in there if "__pycache__" in name or name.endswith("~")]
+    done("bash", "-n", installed / "usr/local/share/bash-completion/completions/um")
+
+
+def test_uninstall_removes_what_was_installed(libraries, tmp_path):
+    words = ["make", "-s", f"DESTDIR={tmp_path}", "PREFIX=/opt/umc", f"PROGRAM={PROGRAM}", f"LIBRARIES={libraries}"]
+    other = tmp_path / "opt/umc/lib/other"
+    other.parent.mkdir(parents=True)
+    other.write_text("")
+    done(*words, "install", cwd=HOME)
+    assert len(files(tmp_path)) > 50
+    assert "/opt/umc/share/umc/python" in (tmp_path / "opt/umc/bin/um").read_text()
+    done(*words, "uninstall", cwd=HOME)
+    assert files(tmp_path) == ["opt/umc/lib/other"]
+
+
+def test_nothing_is_built_or_proved(tmp_path):
+    ran = subprocess.run(["make", "install", f"DESTDIR={tmp_path}", "PROGRAM=none"], cwd=HOME, capture_output=True,
+                         text=True)
+    assert ran.returncode == 2 and "./build proves and builds it" in ran.stderr
+    assert files(tmp_path) == []
+
+
+# ---- packages
+
+def package(kind: str, libraries: Path, folder: Path) -> Path:
+    done(HOME / "tools/package", "--program", PROGRAM, "--libraries", libraries, "--out", folder, "--only", kind,
+         "--maintainer", "Somebody <somebody@example.org>")
+    (made,) = folder.iterdir()
+    return made
+
+
+def test_the_debian_package(libraries, tmp_path):
+    need("dpkg-deb", "strip")
+    made = package("deb", libraries, tmp_path / "made")
+    assert made.name == f"umc_{VERSION}_amd64.deb"
+    done("dpkg-deb", "-x", made, tmp_path / "root")
+    check_readme(tmp_path / "root/usr", PYTHONPATH=str(tmp_path / "root/usr/lib/python3/dist-packages"))
+    if not os.access("/usr/bin/lintian", os.X_OK):
+        pytest.skip("the package answers; Debian's lintian isn't there")
+    said = subprocess.run(["lintian", "--allow-root", "--no-cfg", made], capture_output=True, text=True)
+    assert [line for line in said.stdout.splitlines() if line.startswith("E:")] == []
+
+
+def test_the_wheel(libraries, tmp_path):
+    need("strip")
+    if subprocess.run([DEBIAN, "-m", "wheel", "version"], capture_output=True).returncode:
+        pytest.skip("Debian's python3-wheel isn't there")
+    made = package("wheel", libraries, tmp_path / "made")
+    assert made.name == f"umc-{VERSION}-py3-none-linux_x86_64.whl"
+    done(DEBIAN, "-m", "wheel", "unpack", "--dest", tmp_path, made)
+    module = tmp_path / f"umc-{VERSION}"
+    text = ("import umc; p = umc.Program('let f (x: num<km>) = km_to_m x', library=['si']); print(p.f((2, 'km')).text, "
+            "type(p.engine).__name__)")
+    environment = {name: it for name, it in os.environ.items() if name not in ("UMC", "UMC_LIBRARY", "UM_PATH")}
+    said = done(DEBIAN, "-c", text, env={**environment, "PYTHONPATH": str(module)}, cwd=tmp_path)
+    assert shlex.split(said) == ["2000<m>", "Library"]

@@ -1,0 +1,57 @@
+/*
+ * umc for programs in C and C++: questions about a program of the language, answered in this process.
+ *
+ *     char *answer;
+ *     size_t size;
+ *     const char *words[] = {"run", "10000000", "mean", "[1<m>; 2<m>]"};
+ *     int status = umc_answer(words, 4, text, strlen(text), &answer, &size);
+ *     if (answer) {
+ *         fputs(answer, status ? stderr : stdout);
+ *     }
+ *     umc_free(answer);
+ *
+ * The library keeps nothing between two calls and has no variables of its own, so any number of threads may call it at
+ * once. It reads no file, writes none, and prints nothing. Link it with -lumc, or with libumc.a.
+ */
+#ifndef UMC_H
+#define UMC_H
+
+#include <stddef.h>
+
+#ifdef __cplusplus
+extern "C" {
+#endif
+
+/* The status of an answer; every other status is the number of a refusal, whose line is the answer. */
+#define UMC_DONE 0
+/* There was too little memory. This status alone has no answer. */
+#define UMC_NO_MEMORY 17
+
+/*
+ * Answers the words of a command line about a text, as the program `umc` answers them about its standard input.
+ *
+ * words, words_count: the command and its words, as {"types"} or {"run", "100", "mean", "[1; 2]"}, in UTF-8
+ * text, text_size: the bytes that the command reads, which may hold any byte; NULL for none
+ * answer: set to the answer, and a zero byte after its last byte; it is the caller's, who hands it to umc_free
+ * answer_size: set to the number of bytes of the answer without that zero byte
+ *
+ * Gives the status: 0 if the command was done, otherwise the number of the refusal, and the answer is the line
+ * "error N: ..". If memory is wanting, it gives UMC_NO_MEMORY, *answer is NULL and *answer_size is 0.
+ *
+ * A budget bounds how many calls a run makes; the time and the memory of a run aren't bounded otherwise. What a thread
+ * needs of its stack is within the 8 MiB that Linux gives a program.
+ */
+int umc_answer(const char *const *words, size_t words_count, const void *text, size_t text_size, char **answer,
+               size_t *answer_size);
+
+/* Gives the memory of an answer back. NULL is allowed. */
+void umc_free(char *answer);
+
+/* The version of the library, as "1.0.0". */
+const char *umc_version(void);
+
+#ifdef __cplusplus
+}
+#endif
+
+#endif

@@ -1,0 +1,323 @@
+"""Programs in Python: `import umc`, on the program and on the shared library."""
+import pickle
+import threading
+from decimal import Decimal
+from fractions import Fraction
+
+import pytest
+
+import umc
+from conftest import HOME, PROGRAM
+from umc.embed import library
+
+VEHICLE = HOME / "examples/vehicle.um"
+RECORDS = "type P = { x: num; ok: bool }\nlet same (p: P) = p\nlet both (a: bool) (l: bool list) = a :: l\n"
+THIRD = Fraction(1, 3)
+
+
+def engines() -> list[object]:
+    found = library.find()
+    why = f"there is no {library.NAME}: embed/build makes it, {library.VARIABLE} names one"
+    mark = [pytest.mark.skip(reason=why)] if found is None else []
+    return [pytest.param("process", id="umc"), pytest.param("library", id="library", marks=mark)]
+
+
+@pytest.fixture(params=engines())
+def engine(request):
+    return umc.Process(PROGRAM) if request.param == "process" else umc.Library()
+
+
+@pytest.fixture
+def vehicle(engine):
+    return umc.Program.read(VEHICLE, engine=engine)
+
+
+def quantity(text: str) -> tuple[Fraction, str]:
+    number, _, unit = text.partition("<")
+    return Fraction(number.replace("r", "/")), unit.removesuffix(">")
+
+
+def test_a_program_has_its_functions(vehicle):
+    assert list(vehicle.types()) == ["total", "count", "mean", "kinetic", "metres", "move"]
+    assert str(vehicle.types()["mean"]) == "mean : num<'a> list -> num<'a>"
+    kinetic = vehicle.types()["kinetic"]
+    assert [part.unit for part in kinetic.parameters] == [{"kg": 1}, {"m": 1, "s": -1}]
+    assert kinetic.result.unit == {"kg": 1, "m": 2, "s": -2}
+    move = vehicle.types()["move"]
+    assert (move.result.kind, move.result.name, move.result.units) == ("record", "Body", ({"'a": 1},))
+    assert vehicle.types()["count"].parameters[0].item.unit == {"'a": 1}
+    assert repr(vehicle.metres) == "<metres : num<ft> -> num<m>>"
+    assert vehicle["metres"](1, unit="ft") == vehicle.metres((1, "ft"))
+    assert "metres" in dir(vehicle) and not hasattr(vehicle, "yards")
+    with pytest.raises(KeyError):
+        vehicle["yards"]
+
+
+@pytest.mark.parametrize("given", [10, Fraction(20, 2), Decimal("10.0"), "10", " 1e1 ", "20/2"])
+def test_numbers_are_exact_and_take_the_unit(vehicle, given):
+    found = vehicle.metres(given, unit="ft")
+    assert (found.magnitude, found.unit) == (Fraction(381, 125), "m")
+    assert vehicle.metres((given, "ft")) == found
+
+
+def test_a_float_is_refused_unless_a_step_is_named(vehicle):
+    for given in (0.1, [1, 0.1], float("nan"), float("inf")):
+        with pytest.raises(umc.ValueRefused):
+            vehicle.mean(given, unit="m")
+    found = vehicle.mean([0.1, 0.2, 0.3000001], unit="m", step="0.001")
+    assert (found.magnitude, found.unit) == (Fraction(1, 5), "m")
+    assert vehicle.metres(2.5, unit="ft", step=1) == vehicle.metres(2, unit="ft")
+    for step in (0.1, 0, "-1", "small", None.__class__):
+        with pytest.raises(umc.ValueRefused):
+            vehicle.metres(1.5, unit="ft", step=step)
+    for given in (float("nan"), float("inf")):
+        with pytest.raises(umc.ValueRefused):
+            vehicle.metres(given, unit="ft", step=1)
+
+
+def test_lists_records_and_truth_values(vehicle, engine):
+    assert vehicle.mean([1, Decimal("2.5"), (4, "m"), "0.5"], unit="m").text == "2<m>"
+    assert vehicle.mean(["1<m>", "2<m>"]).text == "3r2<m>"
+    assert vehicle.mean(("1<m>", "2<m>")).text == "3r2<m>"
+    assert vehicle.move({"pos": (1, "m"), "vel": ("1.5", "m/s")}, (2, "s")) == {
+        "pos": umc.Quantity(Fraction(4), "m"), "vel": umc.Quantity(Fraction(3, 2), "m/s")}
+    program = umc.Program(RECORDS, engine=engine)
+    assert program.same({"x": 1, "ok": True}) == {"x": umc.Quantity(Fraction(1)), "ok": True}
+    assert program.both(False, [True, False]) == [False, True, False]
+    assert program.both("false", []) == [False]
+    assert vehicle.count([]).magnitude == 0
+
+
+def test_what_a_call_gives_may_be_handed_on(vehicle):
+    found = vehicle.kinetic((2, "kg"), vehicle.mean([(1, "m/s"), (2, "m/s")]))
+    assert found.text == "9r4<kg m^2/s^2>"
+    assert found.powers == {"kg": 1, "m": 2, "s": -2}
+    assert eval(repr(found), {"Quantity": lambda text: text}) == found.text
+
+
+@pytest.mark.parametrize("given", [None, object(), b"1", {1: object()}, [1, None], [[object()]]])
+def test_other_values_are_refused(vehicle, given):
+    with pytest.raises(umc.ValueRefused):
+        vehicle.metres(given)
+
+
+def test_units_are_one_for_all_or_one_each(vehicle):
+    assert vehicle.kinetic(2, 3, unit=["kg", "m/s"]).text == "9<kg m^2/s^2>"
+    assert vehicle.kinetic((2, "kg"), 3, unit="m/s").text == "9<kg m^2/s^2>"
+    with pytest.raises(umc.ValueRefused):
+        vehicle.kinetic(2, 3, unit=["kg"])
+    with pytest.raises(umc.ValueRefused):
+        vehicle.mean("[1; 2]", unit="m")
+
+
+def test_quantities_in_other_units(vehicle, engine):
+    energy = vehicle.kinetic((2, "kg"), ("3.5", "m/s"))
+    assert (energy.to("J").magnitude, energy.to("J").unit) == (Fraction(49, 4), "J")
+    assert str(energy.to("J", digits=2)) == "12.25<J>"
+    length = vehicle.metres((10, "ft"))
+    yards = length.to("yd=0.9144<m>")
+    assert (yards.magnitude, yards.unit) == (Fraction(10, 3), "yd")
+    near = length.to("yd=0.9144<m>", digits=4)
+    assert (str(near), near.rounded, near.magnitude) == ("~3.3333<yd>", True, Fraction(33333, 10000))
+    assert near.decimal == Decimal("3.3333") and str(energy.to("J", digits=3).decimal) == "12.250"
+    with pytest.raises(ValueError, match="no end"):
+        yards.decimal
+    assert str(length.to("m", digits=3)) == "3.048<m>"
+    with pytest.raises(umc.Error, match="m_to_s"):
+        length.to("s")
+    with pytest.raises(umc.Refused) as caught:
+        length.to("furlong")
+    assert caught.value.status == 11
+    program = umc.Program("let twice (x: num<m>) = x + x", library=["si"], engine=engine)
+    assert str(program.twice(2, unit="m").to("ft", digits=4)) == "~13.1234<ft>"
+    with pytest.raises(umc.Error, match="no program"):
+        umc.Quantity(Fraction(1), "m").to("ft")
+
+
+def test_a_zero_may_have_an_open_unit(engine):
+    program = umc.Program("let none (x: num<_>) = 0<_>", engine=engine)
+    found = program.none(1)
+    assert (found.magnitude, found.unit, found.powers) == (0, "_", {})
+
+
+def test_a_library_stands_before(engine):
+    program = umc.Program("let fall (t: num<s>) = 9.8<m/s^2> * t * t / 2", library=["si"], engine=engine)
+    assert program.fall(3, unit="s").text == "441r10<m>"
+    program = umc.Program("// with: si list\nlet area (x: num<m>) = x * x", engine=engine)
+    assert program.area(3, unit="m").to("m^2").magnitude == 9
+    with pytest.raises(umc.Error, match="no file of the library"):
+        umc.Program("let k = 1", library=["nowhere"], engine=engine)
+    with pytest.raises(TypeError):
+        umc.Program("let k = 1", library="si", engine=engine)
+
+
+@pytest.mark.parametrize("asked", ["/etc/passwd", "-", "./a.um", "a.um", "..", "si ../secret"])
+def test_a_text_names_no_file_but_the_librarys(engine, asked, tmp_path, monkeypatch):
+    monkeypatch.chdir(tmp_path)
+    (tmp_path / "a.um").write_text("let secret = 1\n")
+    with pytest.raises(umc.Error, match="asks for a file that isn't one of the library"):
+        umc.Program(f"// with: {asked}\nlet k = 1", engine=engine)
+
+
+def test_a_file_may_ask_for_a_file(engine, tmp_path, monkeypatch):
+    monkeypatch.chdir(tmp_path)
+    (tmp_path / "a.um").write_text("let two = 2\n")
+    (tmp_path / "b.um").write_text("// with: ./a.um\nlet four = two + two\n")
+    assert umc.Program.read(tmp_path / "b.um", engine=engine).four().magnitude == 4
+    with pytest.raises(umc.Error, match="No such file"):
+        umc.Program.read(tmp_path / "none.um", engine=engine)
+
+
+# ---- refusals
+
+def test_a_refused_text_has_status_place_and_function(engine):
+    with pytest.raises(umc.Refused) as caught:
+        umc.Program.read(HOME / "examples/refusals/units.um", engine=engine)
+    refused = caught.value
+    assert (refused.status, refused.kind, refused.function, refused.message) == (9, "units", "total", "units of total")
+    assert (refused.place.line, refused.place.column) == (3, 49)
+    assert refused.place.file == str(HOME / "examples/refusals/units.um")
+    assert refused.report == "error 9: units of total at 3:49"
+    assert str(refused).startswith(f"{refused.place}: error 9: units of total")
+    if engine.has("explain"):
+        assert "  left: num<m>" in refused.explanation
+    again = pickle.loads(pickle.dumps(refused))
+    assert (again.status, again.place, str(again)) == (9, refused.place, str(refused))
+
+
+def test_a_place_is_told_in_the_text_behind_the_library(engine):
+    with pytest.raises(umc.Refused) as caught:
+        umc.Program("let k = 1\nlet wrong (x: num<m>) = x + 1<s>", library=["si"], engine=engine)
+    assert str(caught.value.place) == "<text>:2:27"
+
+
+def test_a_refused_call_shows_the_argument_and_the_type(vehicle):
+    with pytest.raises(umc.Refused) as caught:
+        vehicle.mean("[1<m>; 2<q>]")
+    refused = caught.value
+    assert (refused.status, refused.argument, refused.place) == (11, (1, 10), None)
+    assert refused.explanation == ("  | [1<m>; 2<q>]", "  |          ^", "mean : num<'a> list -> num<'a>")
+    with pytest.raises(umc.Refused) as caught:
+        vehicle.metres(1, 2, unit="ft")
+    assert caught.value.message == "wrong number of arguments"
+
+
+def test_a_trap_and_the_end_of_a_budget(vehicle, engine):
+    with pytest.raises(umc.Refused) as caught:
+        vehicle.mean([])
+    assert (caught.value.status, caught.value.kind) == (12, "trap")
+    if engine.has("trace"):
+        assert caught.value.function == "mean" and caught.value.place.line == 17
+        assert "  right: 0" in caught.value.explanation
+    short = umc.Program.read(VEHICLE, engine=engine, budget=2)
+    with pytest.raises(umc.Refused) as caught:
+        short.total([1, 2, 3])
+    assert caught.value.kind == "budget"
+
+
+# ---- many calls
+
+def test_each_makes_a_call_for_each_row(vehicle):
+    found = vehicle.kinetic.each([1, 2, 3], ["1", Fraction(1, 2), 2], unit=["kg", "m/s"])
+    assert [value.magnitude for value in found] == [Fraction(1, 2), Fraction(1, 4), 6]
+    assert vehicle.metres.each([]) == []
+    with pytest.raises(umc.Refused) as caught:
+        vehicle.metres.each([(1, "ft"), (2, "m"), (3, "q")])
+    assert (caught.value.row, caught.value.status) == (2, 11)
+    kept = vehicle.metres.each([(1, "ft"), (2, "m"), (3, "ft")], keep_going=True)
+    assert [type(value) for value in kept] == [umc.Quantity, umc.Refused, umc.Quantity]
+    with pytest.raises(umc.ValueRefused, match="argument 1, row 2"):
+        vehicle.metres.each([1, 0.5], unit="ft")
+    with pytest.raises(umc.ValueRefused, match="2, 1 rows"):
+        vehicle.kinetic.each([1, 2], [1], unit=["kg", "m/s"])
+
+
+def test_threads_may_share_a_program(vehicle):
+    found: list[Fraction] = []
+    threads = [threading.Thread(target=lambda n=n: found.append(vehicle.metres(n, unit="ft").magnitude))
+               for n in range(8)]
+    for thread in threads:
+        thread.start()
+    for thread in threads:
+        thread.join()
+    assert sorted(found) == [n * Fraction(381, 1250) for n in range(8)]
+
+
+# ---- engines and limits
+
+ENDLESS = "\n".join(["let f (x: num) =", *(f"  let x{n} = [{p}; {p}] in" for n, p in enumerate(
+    ["x", *(f"x{n}" for n in range(39))])), "  x39"])
+
+
+def test_a_run_is_held_within_limits():
+    long = ENDLESS.replace("  x39", "  x14")
+    for text, limits in ((ENDLESS, umc.Limits(memory=100 << 20)), (ENDLESS, umc.Limits(time=1.0, memory=1 << 30)),
+                         (long, umc.Limits(output=50_000))):
+        program = umc.Program(text, limits=limits)
+        assert isinstance(program.engine, umc.Process)
+        with pytest.raises(umc.LimitReached):
+            program.f(1)
+    with pytest.raises(TypeError):
+        umc.Program("let k = 1", limits=umc.Limits(time=1), engine=umc.Process(PROGRAM))
+
+
+def test_a_long_argument(engine):
+    if isinstance(engine, umc.Process) and not engine.has("calls"):
+        pytest.skip("this umc has no command 'calls'")
+    program = umc.Program.read(VEHICLE, engine=engine)
+    assert program.count([(1, "m")] * 50000).magnitude == 50000
+
+
+def test_a_missing_program_or_library_is_told(monkeypatch, tmp_path):
+    with pytest.raises(umc.Unavailable):
+        umc.Program("let k = 1", engine=umc.Process(tmp_path / "none"))
+    with pytest.raises(umc.Unavailable):
+        umc.Library(tmp_path / "libnone.so")
+    monkeypatch.setenv(library.VARIABLE, "none")
+    with pytest.raises(umc.Unavailable):
+        umc.Library()
+    assert isinstance(umc.Program("let k = 1").engine, umc.Process)
+
+
+def test_images(engine):
+    answer = umc.Process(PROGRAM).answer(["image"], (HOME / "examples/mean.um").read_bytes())
+    image = umc.Image(answer.output, engine=engine)
+    assert (image.call("mean", [1, 2]).magnitude, image.printed("mean", [1, 2])) == (Fraction(3, 2), "3r2")
+    with pytest.raises(umc.Refused) as caught:
+        image.call("mean", True)
+    assert caught.value.status == 11
+    with pytest.raises(umc.Refused) as caught:
+        umc.Image(answer.output[:-1], engine=engine).call("mean", [1])
+    assert caught.value.kind == "image"
+
+
+# ---- pint and pandas
+
+def test_quantities_of_pint(vehicle):
+    pint = pytest.importorskip("pint", reason="Debian's python3-pint isn't there")
+    units = pint.UnitRegistry()
+    found = vehicle.kinetic(2 * units.kg, Fraction(7, 2) * units.meter / units.second)
+    assert found.text == "49r2<kg m^2/s^2>" or found.text == "49r4<kg m^2/s^2>"
+    given = found.to_pint(units)
+    assert given.magnitude == found.magnitude and isinstance(given.magnitude, Fraction)
+    assert given.check("[energy]")
+    assert vehicle.mean([1 * units.m, 2 * units.m]).text == "3r2<m>"
+    assert vehicle.mean(units.Quantity([1, 2], "m")).text == "3r2<m>"
+    with pytest.raises(umc.ValueRefused):
+        vehicle.metres(1.5 * units.foot)
+    assert vehicle.metres(1.5 * units.foot, step="0.5").text == "1143r2500<m>"
+    with pytest.raises(umc.ValueRefused, match="whole number"):
+        vehicle.mean([units.Quantity(1, "m") ** 0.5])
+
+
+def test_columns_of_pandas(vehicle):
+    pandas = pytest.importorskip("pandas", reason="Debian's python3-pandas isn't there")
+    frame = pandas.DataFrame({"mass [kg]": [2, 3], "speed [m/s]": [1.5, 2.0], "n": ["1", "2.5"]})
+    found = vehicle.kinetic.each(frame["mass [kg]"], frame["speed [m/s]"], step="0.5")
+    assert [value.text for value in found] == ["9r4<kg m^2/s^2>", "6<kg m^2/s^2>"]
+    assert vehicle.mean(frame["mass [kg]"]).text == "5r2<kg>"
+    assert vehicle.mean(frame["n"], unit="m").text == "7r4<m>"
+    assert vehicle.mean(frame["mass [kg]"].to_numpy(), unit="ft").text == "5r2<ft>"
+    for missing in (None, float("nan"), pandas.NA, pandas.NaT):
+        with pytest.raises(umc.ValueRefused, match="there is no value"):
+            vehicle.mean(pandas.Series([1, missing], dtype=object), unit="m", step=1)

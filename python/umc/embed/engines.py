@@ -1,0 +1,128 @@
+"""What answers: the program in a process of its own, or the shared library in this process.
+
+An engine opens the text of a program and gives a handle; a handle answers about this text alone. So an engine that
+keeps checked programs fits in beside those that read the text at each call.
+"""
+import os
+from collections.abc import Sequence
+from pathlib import Path
+from typing import Protocol
+
+from umc import program as processes
+from umc import reports
+from umc.arguments import line_of_calls, source_of_calls
+from umc.call_commands import ask as ask_any_length
+from umc.limits import NONE, Limits
+from umc.program import Answer
+from umc.texts import Source, Text
+
+CHUNK = 10_000
+PROBES = processes.PROBES
+UNKNOWN_WORDS = processes.UNKNOWN_WORDS
+
+
+class Handle(Protocol):
+    """A program's text that questions are put to."""
+
+    def ask(self, words: Sequence[str]) -> Answer:
+        """The answer of a command on the text."""
+
+    def call(self, budget: str, words: Sequence[str]) -> Answer:
+        """The answer to one call: the words are the function's name and its arguments."""
+
+    def calls(self, budget: str, lines: Sequence[Sequence[str]]) -> list[Answer]:
+        """The answers to many calls of a text that is accepted."""
+
+    def close(self) -> None:
+        """Lets go of what is kept."""
+
+
+class Engine(Protocol):
+    """What answers."""
+
+    @property
+    def path(self) -> Path:
+        """The file of the program or of the library."""
+
+    def has(self, command: str) -> bool:
+        """Whether it has this command."""
+
+    def open(self, text: bytes) -> Handle:
+        """A handle on this text. It isn't looked at yet."""
+
+
+class Process:
+    """The program `umc`, in a process of its own for each question, within limits."""
+
+    def __init__(self, path: str | os.PathLike[str] | None = None, limits: Limits = NONE):
+        self.program = processes.find() if path is None else processes.Program(Path(path).absolute())
+        self.limits = limits
+
+    def __repr__(self) -> str:
+        return f"umc.Process({str(self.path)!r})"
+
+    @property
+    def path(self) -> Path:
+        """The program's file."""
+        return self.program.path
+
+    def has(self, command: str) -> bool:
+        """Whether the program has this command."""
+        return self.program.has(command)
+
+    def answer(self, words: Sequence[str], text: bytes) -> Answer:
+        """The program's answer to these words about a text."""
+        if words[0] == "run":   # the words may be longer than the system takes
+            return ask_any_length(self.program, list(words), Text([Source("", text)]), self.limits)
+        return self.program.ask(words, text, self.limits)
+
+    def open(self, text: bytes) -> Handle:
+        """A handle on this text."""
+        return TextHandle(self, text)
+
+
+class Answering(Protocol):
+    """An engine that reads the text at each question."""
+
+    def has(self, command: str) -> bool:
+        """Whether it has this command."""
+
+    def answer(self, words: Sequence[str], text: bytes) -> Answer:
+        """The answer to these words about a text."""
+
+
+class TextHandle:
+    """A handle of an engine that reads the text at each question."""
+
+    def __init__(self, engine: Answering, text: bytes):
+        self._engine, self._text = engine, text
+
+    def ask(self, words: Sequence[str]) -> Answer:
+        """The answer of a command on the text."""
+        return self._engine.answer(words, self._text)
+
+    def call(self, budget: str, words: Sequence[str]) -> Answer:
+        """The answer to one call."""
+        return self.ask(["run", budget, *words])
+
+    def calls(self, budget: str, lines: Sequence[Sequence[str]]) -> list[Answer]:
+        """The answers to many calls: the text is read once for each ten thousand, if the engine has `calls`."""
+        if not self._engine.has("calls"):
+            return [self.call(budget, words) for words in lines]
+        found: list[Answer] = []
+        for first in range(0, len(lines), CHUNK):
+            found += self._chunk(budget, [line_of_calls(list(words)) for words in lines[first:first + CHUNK]])
+        return found
+
+    def _chunk(self, budget: str, lines: list[str]) -> list[Answer]:
+        answer = self._engine.answer(["calls", budget], source_of_calls(self._text, lines))
+        if answer.status != 0:
+            return [answer] * len(lines)
+        every = []
+        for line in answer.output.removesuffix(b"\n").split(b"\n"):
+            report = reports.parse(line.decode("utf-8", "replace")) if line.startswith(b"error ") else None
+            every.append(Answer(report.status if report else 0, line + b"\n"))
+        return every
+
+    def close(self) -> None:
+        """Nothing is kept."""

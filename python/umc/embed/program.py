@@ -1,0 +1,241 @@
+"""A program of the language, and its functions."""
+import os
+import re
+from collections.abc import Iterable, Sequence
+from dataclasses import dataclass
+from typing import Any
+
+from umc.embed import quantity, refused
+from umc.embed.engines import Engine, Process
+from umc.embed.library import Library, find
+from umc.embed.quantity import Quantity
+from umc.embed.refused import Refused
+from umc.embed.schemes import Scheme, schemes
+from umc.embed.texts_of import Step, ValueRefused, Writer, column_unit, exact_step
+from umc.errors import InputError, UmError
+from umc.limits import NONE, Limits
+from umc.options import BUDGET
+from umc.program import Answer
+from umc.program import Program as ProgramFile
+from umc.texts import Gathering, Source, Text, library_file, needs, read
+
+NAME = "<text>"
+LIBRARY_NAME = re.compile(r"[A-Za-z_][A-Za-z0-9_]*")
+Units = str | Sequence[str | None] | None
+
+
+def engine_of(limits: Limits) -> Engine:
+    """The shared library where it is there, otherwise the program. Only a process can be held within limits."""
+    if limits == NONE and find() is not None:
+        return Library()
+    return Process(limits=limits)
+
+
+class Program:
+    """A program of the language that was accepted. Its functions are attributes, as `p.mean`, and items, as `p["mean"]`.
+
+    text: the program, as a string or bytes; `Program.read(path)` reads a file
+    library: files of the library that stand before it, as ["si", "list"]
+    budget: how many calls a call may make at most
+    limits: `umc.Limits(time=2, memory=500 << 20, output=1 << 20)` of each question, which takes a process for each
+    file: the file's name, if the text is that of a file: its first line may ask for other files
+    engine: `umc.Process(path)` or `umc.Library(path)`; otherwise the library if it is there, or else the program
+
+    Raises `umc.Refused` if the text is refused.
+    """
+
+    def __init__(self, text: str | bytes, library: Iterable[str] = (), *, budget: int = int(BUDGET),
+                 limits: Limits = NONE, engine: Engine | None = None, file: str | None = None):
+        if isinstance(library, str):
+            raise TypeError("library takes a list of names, as library=['si']")
+        if engine is not None and limits != NONE:
+            raise TypeError("an engine that is named has limits of its own, as umc.Process(limits=..)")
+        self.engine = engine_of(limits) if engine is None else engine
+        self.budget = budget
+        data = text.encode("utf-8", "surrogatepass") if isinstance(text, str) else bytes(text)
+        self._text = self._gathered(Source(file or NAME, data), library, file is not None)
+        self._handle = self.engine.open(self._text.data)
+        answer = self._handle.ask(["types"])
+        if answer.status != 0:
+            raise refused.of_text(self._handle, self._text, answer, self.engine.has("explain"))
+        self._schemes = schemes(answer.output.decode())
+        self._ratio: "Program | None" = None
+
+    @classmethod
+    def read(cls, path: str | os.PathLike[str], library: Iterable[str] = (), **how: Any) -> "Program":
+        """The program in a file."""
+        return cls(read(os.fspath(path)).data, library, file=os.fspath(path), **how)
+
+    def _gathered(self, source: Source, library: Iterable[str], is_file: bool) -> Text:
+        """The text after the files of the library. A text that anybody may have sent names no other file."""
+        asked = needs(source)
+        if not is_file and not all(map(LIBRARY_NAME.fullmatch, asked)):
+            raise InputError("the first line asks for a file that isn't one of the library", source.name)
+        beside = ProgramFile(self.engine.path)
+        gathering = Gathering(beside, follows=True)
+        for part in [*library, *asked]:
+            gathering.add(library_file(part, beside))
+        return Text([*gathering.sources.values(), source])
+
+    def __repr__(self) -> str:
+        return f"umc.Program({self._text.name}: {', '.join(self._schemes)})"
+
+    def types(self) -> dict[str, Scheme]:
+        """What each function takes and gives, by its name."""
+        return dict(self._schemes)
+
+    def __getitem__(self, name: str) -> "Function":
+        if name not in self._schemes:
+            raise KeyError(name)
+        return Function(self, self._schemes[name])
+
+    def __getattr__(self, name: str) -> "Function":
+        if name in self.__dict__.get("_schemes", {}):
+            return self[name]
+        raise AttributeError(f"the program has no function {name!r}")
+
+    def __dir__(self) -> list[str]:
+        return sorted([*object.__dir__(self), *self._schemes])
+
+    def close(self) -> None:
+        """Lets go of what the engine keeps."""
+        self._handle.close()
+
+    def __enter__(self) -> "Program":
+        return self
+
+    def __exit__(self, *fault: object) -> None:
+        self.close()
+
+    # ---- what functions and quantities ask
+
+    def answers(self, name: str, rows: Sequence[Sequence[str]]) -> list[Any]:
+        """The values, or the refusals, of calls of a function, whose arguments are texts."""
+        found = self._handle.calls(str(self.budget), [[name, *row] for row in rows])
+        return [self._value(name, list(row), answer) for row, answer in zip(rows, found, strict=True)]
+
+    def answer(self, name: str, arguments: Sequence[str]) -> str:
+        """The printed value of a call of a function, whose arguments are texts."""
+        answer = self._handle.call(str(self.budget), [name, *arguments])
+        if answer.status == 0:
+            return line_of(answer)
+        found = refused.of_call(answer, list(arguments), self._schemes[name].text)
+        if found.status in refused.TRAPS and self.engine.has("trace"):
+            words = [str(self.budget), name, *arguments]
+            found = refused.of_trap(self._handle, self._text, words, found)
+        raise found
+
+    def _value(self, name: str, arguments: list[str], answer: Answer) -> Any:
+        if answer.status != 0:
+            return refused.of_call(answer, arguments, self._schemes[name].text)
+        return quantity.value_of(line_of(answer), self.convert)
+
+    def convert(self, given: Quantity, unit: str) -> Quantity:
+        """A quantity in another unit, as the program computes it."""
+        name, sign, size = unit.partition("=")
+        name = name.strip()
+        ratio = self._ratio_program()[RATIO](given, size if sign else f"1<{unit}>")
+        if ratio.unit in ("", quantity.OPEN):
+            return Quantity(ratio.magnitude, name, _convert=self.convert)
+        conversion = f"{given.unit}_to_{name}"
+        if not sign and conversion in self._schemes:
+            found = self[conversion](given)
+            if isinstance(found, Quantity):
+                return found
+        raise UmError(f"{given} isn't a number of {name}: the quotient has the unit {ratio.unit}, and the program has "
+                      f"no function {conversion}. A size with a name is written as ft=0.3048<m>")
+
+    def _ratio_program(self) -> "Program":
+        if self._ratio is None:
+            # The first file of a text asks for no file, since those that it asks for would stand before it.
+            self._ratio = Program(self._text.data + RATIO_TEXT, engine=self.engine, budget=self.budget)
+        return self._ratio
+
+
+def line_of(answer: Answer) -> str:
+    """The line that a call printed."""
+    return answer.output.decode().removesuffix("\n")
+
+
+RATIO = "umc_ratio__"
+RATIO_TEXT = f"\nlet {RATIO} (x: num<_>) (y: num<_>) = x / y\n".encode()
+
+
+@dataclass(frozen=True)
+class Function:
+    """A function of a program, which is called as one of Python."""
+
+    program: Program
+    scheme: Scheme
+
+    def __repr__(self) -> str:
+        return f"<{self.scheme}>"
+
+    @property
+    def name(self) -> str:
+        """The function's name."""
+        return self.scheme.function
+
+    def __call__(self, *arguments: Any, unit: Units = None, step: Step | None = None) -> Any:
+        """The value of a call.
+
+        An argument is an int, Fraction or Decimal; a truth value; a text of the language, as "1.5<m>"; a tuple of a
+        number and a unit; a quantity of pint, or one that a call gave; a list, an array or a column of these; or a
+        dictionary of a record's fields in the order of their declaration.
+
+        unit: the unit of the numbers that have none of their own, or a list with one for each argument
+        step: floats are rounded to the nearest multiple of this; without one they are refused
+
+        Raises `umc.Refused` if the program refuses the call, and `umc.ValueRefused` for a value that is no argument.
+        """
+        return quantity.value_of(self.printed(*arguments, unit=unit, step=step), self.program.convert)
+
+    def printed(self, *arguments: Any, unit: Units = None, step: Step | None = None) -> str:
+        """The value of a call as the program prints it, as 381r125<m>."""
+        writers = self._writers(arguments, unit, step)
+        texts = [_told(writer, argument, number) for number, (writer, argument) in enumerate(zip(writers, arguments), 1)]
+        return self.program.answer(self.name, texts)
+
+    def each(self, *columns: Iterable[Any], unit: Units = None, step: Step | None = None,
+             keep_going: bool = False) -> list[Any]:
+        """The values of a call for each row of columns of arguments, in one question if the engine can.
+
+        The first row that is refused is raised with its number in `row`. With `keep_going` a refusal stands in the
+        place of the value.
+        """
+        writers = self._writers(columns, unit, step)
+        texts = [_column(writer, column, number) for number, (writer, column) in enumerate(zip(writers, columns), 1)]
+        if len({len(column) for column in texts}) > 1:
+            raise ValueRefused(f"the columns have {', '.join(str(len(column)) for column in texts)} rows")
+        found = self.program.answers(self.name, list(zip(*texts)))
+        for number, value in enumerate(found, 1):
+            if isinstance(value, Refused):
+                value.row = number
+                if not keep_going:
+                    raise value
+        return found
+
+    def _writers(self, arguments: Sequence[Any], unit: Units, step: Step | None) -> list[Writer]:
+        exact = None if step is None else exact_step(step)
+        units = [unit] * len(arguments) if unit is None or isinstance(unit, str) else list(unit)
+        if len(units) != len(arguments):
+            raise ValueRefused(f"unit has {len(units)} units for {len(arguments)} arguments")
+        return [Writer(column_unit(argument) if own is None else own, exact)
+                for argument, own in zip(arguments, units)]
+
+
+def _told(writer: Writer, argument: Any, number: int) -> str:
+    try:
+        return writer.text(argument)
+    except ValueRefused as error:
+        raise ValueRefused(f"argument {number}: {error.message}") from error
+
+
+def _column(writer: Writer, column: Iterable[Any], number: int) -> list[str]:
+    texts = []
+    for row, value in enumerate(column, 1):
+        try:
+            texts.append(writer.text(value))
+        except ValueRefused as error:
+            raise ValueRefused(f"argument {number}, row {row}: {error.message}") from error
+    return texts
