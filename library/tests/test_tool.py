@@ -30,6 +30,9 @@ class Answers:
     def __init__(self, answer: str) -> None:
         self.answer = answer
 
+    def ask(self, _text: str, *_words: str) -> str:
+        return self.answer
+
     def ask_each(self, _text: str, questions: list[tuple[str, ...]]) -> list[str]:
         return [self.answer for _ in questions]
 
@@ -67,9 +70,14 @@ def test_a_refused_signature_and_a_missing_one_are_told(tool: ModuleType, capsys
     assert "library/num.sig: no signature of nameless" in capsys.readouterr().out
 
 
-def test_a_program_that_answers_nothing_fails(tool: ModuleType, capsys: pytest.CaptureFixture[str]) -> None:
+def test_a_program_that_answers_nothing_fails(tool: ModuleType) -> None:
+    with pytest.raises(Fault, match="true types: of the text 'let k = 1' it answers ''"):
+        tool.Program(["true"])
+
+
+def test_no_types_are_told(tool: ModuleType, capsys: pytest.CaptureFixture[str]) -> None:
     tally = tool.Tally()
-    tool.hold_types(tool.Program(["true"]), tally)
+    tool.hold_types(Answers(""), tally)
     assert tally.passed == 0 and tally.failed == len(STEMS) + 1
     assert "library/si.um: no types" in capsys.readouterr().out
 

@@ -7,7 +7,7 @@ import os
 import signal
 import subprocess
 import sys
-from collections.abc import Callable, Sequence
+from collections.abc import Callable, Iterator, Sequence
 from dataclasses import dataclass
 from pathlib import Path
 from typing import Any
@@ -23,9 +23,13 @@ PROGRAM = Path(os.environ.get("UMC") or BUILT).absolute()
 
 
 def pytest_configure(config: pytest.Config) -> None:
-    """The tests are nothing without a program, and signals reach what they start: a job in the background ignores some."""
+    """The tests are nothing without a program, and signals reach what they start: a job in the background ignores some.
+
+    `nohup` has its program ignore SIGHUP, and a shell has a job in the background ignore SIGINT and SIGQUIT.
+    """
     signal.signal(signal.SIGINT, signal.default_int_handler)
-    signal.signal(signal.SIGHUP, signal.SIG_DFL)
+    for number in (signal.SIGHUP, signal.SIGQUIT, signal.SIGTERM, signal.SIGTSTP):
+        signal.signal(number, signal.SIG_DFL)
     config.addinivalue_line("markers", "needs(command): a test that needs a command which not every program has")
     if not os.access(PROGRAM, os.X_OK):
         pytest.exit(f"there is no program {PROGRAM}: UMC=PROGRAM names one", returncode=2)
@@ -74,6 +78,21 @@ def run(*words: str | Path, stdin: str | bytes = b"", cwd: Path = HOME, timeout:
 @pytest.fixture
 def um() -> Callable[..., Run]:
     return run
+
+
+@pytest.fixture
+def start() -> Iterator[Callable[..., subprocess.Popen[bytes]]]:
+    """Starts `um` on words, or a whole command. What still runs after the test is ended, so a failure leaves nothing."""
+    started: list[subprocess.Popen[bytes]] = []
+
+    def begin(words: Sequence[str | Path], **settings: Any) -> subprocess.Popen[bytes]:
+        started.append(subprocess.Popen(list(map(str, words)), cwd=HOME, **settings))
+        return started[-1]
+    yield begin
+    for process in started:
+        if process.poll() is None:
+            process.terminate()
+            process.wait(timeout=60)
 
 
 def answer(words: Sequence[str], text: str | bytes) -> tuple[int, str]:

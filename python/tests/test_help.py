@@ -24,6 +24,34 @@ def test_the_overview_names_each_command(um):
     assert (um().status, um().out) == (64, found.out)
 
 
+OLDER = f"""case $1 in
+    explain|annot|trace|show|calls|tidy) echo "error 1: usage"; exit 1;;
+esac
+exec "{PROGRAM}" "$@\""""
+
+
+def test_the_overview_says_which_commands_need_a_later_program(um, script):
+    lines = um("--help", UMC=str(script(OLDER))).out.splitlines()
+    later = [line.split()[0] for line in lines if line.startswith("  ") and line.endswith(" (needs a later umc)")]
+    assert later == [name for name, command in COMMANDS.items() if command.needs]
+    assert "The explanation after a refusal (needs a later umc)." in lines
+    whole = um("--help", UMC=str(script("exit 0")))
+    assert "needs a later" not in whole.out and whole.status == 0
+    assert um("--help", UMC="/nowhere/umc").out == whole.out
+
+
+def test_the_overview_builds_nothing(tmp_path):
+    shutil.copytree(HOME / "python/umc", tmp_path / "python/umc", ignore=shutil.ignore_patterns("__pycache__"))
+    shutil.copy(UM, tmp_path / "um")
+    (tmp_path / "crates.txt").touch()
+    (tmp_path / "umc").write_text(f"#!/bin/sh\ntouch {tmp_path}/asked\n")
+    (tmp_path / "umc").chmod(0o755)
+    environment = {name: value for name, value in os.environ.items() if name != "UMC"}
+    done = subprocess.run([sys.executable, tmp_path / "um", "--help"], env=environment, capture_output=True, text=True)
+    assert (done.returncode, done.stderr) == (0, "")
+    assert "  types " in done.stdout and not (tmp_path / "asked").exists()
+
+
 @pytest.mark.parametrize("name", COMMANDS)
 def test_each_command_has_a_page_with_an_example(um, name):
     found = um(name, "--help")
@@ -79,8 +107,7 @@ def test_words_that_are_wrong_are_told(um, words, why):
     (["show", "examples/area.um", "area", "1<m>", "2<m>"], "show"),
     (["table", "examples/area.um", "area", "/dev/null"], "calls")])
 def test_a_program_without_a_command_is_told(um, script, words, command):
-    older = script(f'case $1 in explain|annot|trace|show|calls|tidy) echo "error 1: usage"; exit 1;; esac\n'
-                   f'exec "{PROGRAM}" "$@"')
+    older = script(OLDER)
     found = um(*words, UMC=str(older))
     assert (found.status, found.out, found.err) == (69, "", f"um: this umc has no command '{command}'\n")
     found = um("types", "examples/refusals/units.um", UMC=str(older))

@@ -88,10 +88,10 @@ def test_what_the_program_says_at_each_run_is_passed_on_once(um, script):
     assert found.err.count("explain\n") == 1
 
 
-def test_what_the_program_says_comes_at_once(script, tmp_path):
+def test_what_the_program_says_comes_at_once(start, script, tmp_path):
     stub = script(f"echo progress >&2; while [ ! -e {tmp_path}/end ]; do sleep 0.05; done; cat > /dev/null")
-    um = subprocess.Popen([sys.executable, UM, "types", "examples/area.um"], cwd=HOME, stdout=subprocess.PIPE,
-                          stderr=subprocess.PIPE, env={**os.environ, "UMC": str(stub)})
+    um = start([sys.executable, UM, "types", "examples/area.um"], stdout=subprocess.PIPE, stderr=subprocess.PIPE,
+               env={**os.environ, "UMC": str(stub)})
     assert um.stderr and um.stderr.readline() == b"progress\n"
     (tmp_path / "end").touch()
     assert um.wait(timeout=60) == 0
@@ -116,15 +116,28 @@ def test_a_program_that_does_not_read_its_text_is_answered(um, program, script):
 @pytest.mark.parametrize("number", [signal.SIGINT, signal.SIGTERM, signal.SIGHUP, signal.SIGQUIT])
 @pytest.mark.parametrize("text", ["echo $$ > {0}/pid; exec sleep 60", "sleep 60 & echo $! > {0}/pid; wait",
                                   "trap '' TERM; echo $$ > {0}/pid; while :; do sleep 1; done"])
-def test_a_signal_ends_both(script, tmp_path, number, text):
+def test_a_signal_ends_both(start, script, tmp_path, number, text):
     stub = script(text.format(tmp_path))
-    um = subprocess.Popen([sys.executable, UM, "run", "examples/area.um", "area", "1", "2"], cwd=HOME,
-                          stdout=subprocess.PIPE, stderr=subprocess.PIPE, env={**os.environ, "UMC": str(stub)})
+    um = start([sys.executable, UM, "run", "examples/area.um", "area", "1", "2"], stdout=subprocess.PIPE,
+               stderr=subprocess.PIPE, env={**os.environ, "UMC": str(stub)})
     process = wait_for_process(tmp_path / "pid")
     um.send_signal(number)
     out, err = um.communicate(timeout=60)
     assert (um.returncode, out, err) == (-number, b"", b"")
     assert not is_alive(process)
+
+
+@pytest.mark.parametrize("number", [signal.SIGINT, signal.SIGQUIT, signal.SIGHUP])
+def test_a_signal_that_the_starter_ignores_ends_nothing(start, script, tmp_path, number):
+    stub = script(f"echo $$ > {tmp_path}/pid; while [ ! -e {tmp_path}/end ]; do sleep 0.05; done; cat > /dev/null")
+    um = start(["sh", "-c", f'trap "" {int(number)}; exec "$0" "$@"', sys.executable, UM, "types", "examples/area.um"],
+               stdout=subprocess.PIPE, env={**os.environ, "UMC": str(stub)})
+    process = wait_for_process(tmp_path / "pid")
+    um.send_signal(number)
+    time.sleep(0.2)
+    assert um.poll() is None and state(process) != "Z"
+    (tmp_path / "end").touch()
+    assert um.wait(timeout=60) == 0
 
 
 def test_ctrl_c_on_a_terminal_ends_both(script, tmp_path):
@@ -145,10 +158,10 @@ def state(process: int) -> str:
     return Path(f"/proc/{process}/stat").read_text().rpartition(")")[2].split()[0]
 
 
-def test_ctrl_z_stops_both(script, tmp_path):
+def test_ctrl_z_stops_both(start, script, tmp_path):
     stub = script(f"echo $$ > {tmp_path}/pid; while [ ! -e {tmp_path}/end ]; do :; done; cat > /dev/null")
-    um = subprocess.Popen([sys.executable, UM, "types", "examples/area.um"], cwd=HOME, stdout=subprocess.PIPE,
-                          env={**os.environ, "UMC": str(stub)}, process_group=0)
+    um = start([sys.executable, UM, "types", "examples/area.um"], stdout=subprocess.PIPE,
+               env={**os.environ, "UMC": str(stub)}, process_group=0)
     process = wait_for_process(tmp_path / "pid")
     um.send_signal(signal.SIGTSTP)
     wait_for(lambda: state(um.pid) == state(process) == "T")
@@ -158,7 +171,7 @@ def test_ctrl_z_stops_both(script, tmp_path):
     assert um.wait(timeout=60) == 0
 
 
-def test_a_signal_ends_what_other_threads_ask(script, tmp_path):
+def test_a_signal_ends_what_other_threads_ask(start, script, tmp_path):
     stub = script(f"echo $$ > {tmp_path}/pid; exec sleep 60")
     text = ("import sys, threading, time\nfrom pathlib import Path\n"
             f"sys.path.insert(0, '{HOME}/python')\nfrom umc import cli, signals\nfrom umc.program import Program\n"
@@ -167,7 +180,7 @@ def test_a_signal_ends_what_other_threads_ask(script, tmp_path):
             "    threading.Thread(target=ask, args=(['types'], b''), daemon=True).start()\n"
             "    time.sleep(60)\n"
             "cli.dispatch = ask\ncli.main([])\n")
-    um = subprocess.Popen([sys.executable, "-c", text])
+    um = start([sys.executable, "-c", text])
     process = wait_for_process(tmp_path / "pid")
     um.send_signal(signal.SIGTERM)
     assert um.wait(timeout=60) == -signal.SIGTERM
@@ -237,6 +250,36 @@ def test_a_run_ends_at_the_limit_of_its_answer(um, program):
     assert found.status == 124
     assert found.objects == [{"status": 124, "kind": "limit", "file": None,
                               "message": "the answer is longer than 50 KiB (--limit-output)"}]
+
+
+# All commands that run a program or an image.
+RUNS = [["run", "examples/area.um", "area", "1", "2"], ["eval", "examples/area.um", "area", "1", "2"],
+        ["steps", "examples/area.um", "area", "1", "2"], ["show", "examples/area.um", "area", "1", "2"],
+        ["trace", "examples/area.um", "area", "1", "2"], ["twin", "examples/area.um", "m=2", "area", "1", "2"],
+        ["exec", "examples/mean.umi", "mean", "[1]"], ["table", "examples/vehicle.um", "mean", "-", "--lists"],
+        ["watch", "examples/area.um", "run", "area", "1", "2"]]
+# It has the types of a text and the command calls, and hangs, writes or takes memory otherwise.
+ENDLESSLY = """case "$1 $2" in types*) exec "{program}" types;; 'calls 1') cat > /dev/null; exit 0;; esac
+cat > /dev/null
+exec {does}"""
+
+
+@pytest.mark.parametrize("words", RUNS, ids=[words[0] for words in RUNS])
+@pytest.mark.parametrize("does, option, value, told", [
+    ("sleep 60", "--limit-time", "0.3", "the run took more than 0.3 s (--limit-time)"),
+    ("yes", "--limit-output", "1M", "the answer is longer than 1 MiB (--limit-output)"),
+    (f"{sys.executable} -c 'x = bytes([1]) * (1 << 28); import time; time.sleep(60)'", "--limit-memory", "128M",
+     "the run held more than 128 MiB of memory (--limit-memory)")], ids=["time", "output", "memory"])
+def test_each_command_that_runs_has_its_limits(start, script, words, does, option, value, told):
+    stub = script(ENDLESSLY.format(program=PROGRAM, does=does))
+    um = start([sys.executable, UM, *words, option, value], stdin=subprocess.PIPE, stdout=subprocess.PIPE,
+               stderr=subprocess.PIPE, env={**os.environ, "UMC": str(stub)})
+    um.stdin.write(b"d [m]\n1\n")
+    um.stdin.close()
+    assert um.stderr.readline() == f"um: {told}\n".encode()
+    if words[0] != "watch":         # which waits for a change of the file
+        assert um.wait(timeout=60) == 124
+        assert um.stdout.read() == b""
 
 
 @pytest.mark.parametrize("option, value", [("--limit-time", "soon"), ("--limit-time", "-1"), ("--limit-memory", "4T"),

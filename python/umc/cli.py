@@ -3,11 +3,13 @@ import argparse
 import os
 import signal
 import sys
+from collections.abc import Sequence
 
 from umc import options, signals
 from umc.commands import COMMANDS
 from umc.errors import Exit, Stopped, UmError
 from umc.front import Front
+from umc.program import built
 from umc.similar import similar
 from umc.terminal import Terminal
 from umc.version import version
@@ -31,16 +33,28 @@ exit status:
   66        a file can't be read                   69   there is no umc, or it lacks the command
   73        a file can't be written                124  a limit of the run was reached
 """
+LATER = " (needs a later umc)"
 # Values are at most 400 high, and their trees are read and written by recursion.
 DEPTH = 10000
 
 
-def overview() -> str:
-    """The page of `um --help`."""
+def overview(lacking: Sequence[str]) -> str:
+    """The page of `um --help`, for a program that lacks these commands."""
     width = max(map(len, COMMANDS))
-    lines = [f"  {command.name.ljust(width)}  {command.summary}" for command in COMMANDS.values()]
+    lines = [f"  {command.name.ljust(width)}  {command.summary}{LATER if command.needs in lacking else ''}"
+             for command in COMMANDS.values()]
+    if "explain" in lacking:
+        lines += ["", f"The explanation after a refusal{LATER}."]
     return "\n".join([SUMMARY, "usage: um COMMAND WORD..", "       um --help | --version", "", "commands:", *lines, "",
                       LAST])
+
+
+def lacking() -> list[str]:
+    """What the program lacks, as it says itself. Nothing is known of one that isn't there or isn't built yet."""
+    try:
+        return built().lacking()
+    except UmError:
+        return []
 
 
 def main(words: list[str] | None = None) -> int:
@@ -79,7 +93,7 @@ def dispatch(words: list[str]) -> int:
     """Carries out a command line."""
     first = words[0] if words else "--help"
     if first in ("--help", "-h") or first == "help" and len(words) == 1:
-        print(overview(), end="")
+        print(overview(lacking()), end="")
         return 0 if words else Exit.USAGE
     if first == "--version":
         print(version(), end="")

@@ -263,8 +263,8 @@ COMMANDS: dict[str, Command] = {command.name: command for command in (
         "The names of the units stay, and so does every other byte of the text.",
         _rescale, "text_commands:run",
         (Example("./um rescale examples/bill.um cent=0.01",
-                 "[<Measure>] type cent\n[<Measure>] type item\n[<Measure>] type each = cent / item\n"
-                 "let price = 25r2<each>   // of one item\nlet postage = 3<cent>\nlet bill (n: num<item>) =\n"
+                 "[<Measure>] type cent\n[<Measure>] type item\n[<Measure>] type each = cent/item\n"
+                 "let price = 25r2<each> // of one item\nlet postage = 3<cent>\nlet bill (n: num<item>) =\n"
                  "  let sum = price * n + postage in\n  sum - 0.05 * sum\n"),)),
     Command(
         "twin", "FILE SIZES NAME [ARG..]",

@@ -86,6 +86,10 @@ class Program:
         """Whether the program has this command."""
         return _has(self, command)
 
+    def lacking(self) -> list[str]:
+        """The commands that a later program has and this one hasn't."""
+        return [command for command in PROBES if not self.has(command)]
+
     def need(self, command: str) -> None:
         """Raises Unavailable if the program hasn't this command."""
         if not self.has(command):
@@ -134,6 +138,17 @@ def _end(process: subprocess.Popen[bytes]) -> None:
             break
     assert process.stdout
     process.stdout.close()
+
+
+def built() -> Program:
+    """The program as `find` gives it, if it answers at once. That of a checkout may have to be built, which takes long."""
+    found = find()
+    if found.path != HOME / "umc":
+        return found
+    for path in (HOME / "crates/umc/out/umc", HOME / "out/quick/umc"):
+        if os.access(path, os.X_OK):
+            return Program(path)
+    raise Unavailable("the program isn't built yet")
 
 
 def is_checkout(folder: Path) -> bool:

@@ -1,0 +1,176 @@
+"""The worst inputs that are known for the program, of each kind: what tools/hostile runs."""
+import importlib.machinery
+import importlib.util
+import struct
+import sys
+from collections.abc import Callable, Iterator
+from dataclasses import dataclass
+from pathlib import Path
+from types import ModuleType
+
+from repository import ROOT
+
+TEXT, IMAGE = 1 << 20, 1 << 24
+TOKENS = ["(", ")", "[", "]", "{", "}", "<", ">", "[<", ">]", "->", "::", ":", ";", ",", "=", "|", "_", ".", "+", "-",
+          "*", "/", "^", "&&", "||", "<=", "'a", "let", "rec", "in", "if", "then", "else", "match", "with", "type",
+          "true", "false", "not", "num", "bool", "list", "Measure", "pown", "x", "1", "2.5", "7r2", "// c\n", "\t",
+          "\n", "\r", "\0", "\x7f", "\u00e9", "\U0001f600", "\ufeff", "\ud800"]
+PLAIN = "[<Measure>] type {}\n"
+
+
+@dataclass(frozen=True)
+class Case:
+    """An input: its kind, what it is, the words of the command, and what makes its bytes."""
+
+    kind: str
+    title: str
+    words: list[str]
+    make: Callable[[], bytes]
+
+
+def script(path: Path) -> ModuleType:
+    """A script of the repository without `.py` at its end, as a module."""
+    if path.stem not in sys.modules:
+        loader = importlib.machinery.SourceFileLoader(path.stem, str(path))
+        spec = importlib.util.spec_from_loader(path.stem, loader)
+        assert spec
+        module = importlib.util.module_from_spec(spec)
+        sys.modules[path.stem] = module
+        written, sys.dont_write_bytecode = sys.dont_write_bytecode, True
+        loader.exec_module(module)
+        sys.dont_write_bytecode = written
+    return sys.modules[path.stem]
+
+
+def filled(front: str, part: str, back: str = "") -> bytes:
+    """As many bytes as a text may have, of one part again and again."""
+    begun, again, ended = (it.encode("utf-8", "surrogatepass") for it in (front, part, back))
+    return begun + again * ((TEXT - len(begun) - len(ended)) // len(again)) + ended
+
+
+# ---- names
+
+def measures(names: list[str]) -> bytes:
+    """A measure of each name."""
+    return "".join(map(PLAIN.format, names)).encode() + b"let k = 1\n"
+
+
+def ordinary(count: int) -> list[str]:
+    """Names of eight characters that nobody has chosen for a table."""
+    return [f"a{k * 2654435761 % (1 << 28):07x}" for k in range(count)]
+
+
+def colliding(count: int, bits: int) -> list[str]:
+    """Names that the kit's hash tables put in one place."""
+    return script(ROOT / "bench" / "colliding").colliding(count, group_bits=bits)
+
+
+# ---- images
+
+def number(value: int) -> bytes:
+    return struct.pack(">I", value)
+
+
+def name(text: str) -> bytes:
+    return number(len(text)) + text.encode()
+
+
+def image(records: list[bytes], functions: list[bytes]) -> bytes:
+    """An image of these records and functions."""
+    return b"UMI1" + number(len(records)) + b"".join(records) + number(len(functions)) + b"".join(functions)
+
+
+def function(code: list[bytes], parameters: bytes = b"", count: int = 0, its_name: str = "f") -> bytes:
+    """A function with a result that is a truth value."""
+    return name(its_name) + number(count) + parameters + b"\0" + number(len(code)) + b"".join(code)
+
+
+TRUE, RET = b"\1\1", b"\x15"
+
+
+def fields(names: list[str]) -> bytes:
+    """A record with many fields."""
+    record = name("R") + number(len(names)) + b"".join(name(it) + b"\0" for it in names)
+    return image([record], [function([TRUE, RET])])
+
+
+def jumps(count: int) -> bytes:
+    """So many pushes, each with a branch after it whose two ways go to the next address."""
+    steps = (TRUE + TRUE + b"\x0d" + number(3 * k + 3) for k in range(count))
+    code = b"".join(steps) + TRUE + RET
+    return image([], [name("f") + number(0) + b"\0" + number(3 * count + 2) + code])
+
+
+def joins(pushes: int, branches: int) -> bytes:
+    """So many pushes, and then branches that all go to one address."""
+    end = pushes + 2 * branches
+    return image([], [function([*[TRUE] * pushes, *[TRUE, b"\x0d" + number(end)] * branches, RET])])
+
+
+def shapes(bytes_: int) -> bytes:
+    """Functions whose parameters are lists in lists, 400 high, as many as there is room for."""
+    parameter = b"\2" * 399 + b"\1"
+    one = len(function([TRUE, RET], parameter * 16, 16, "f0000000"))
+    return image([], [function([TRUE, RET], parameter * 16, 16, f"f{k:07}") for k in range((bytes_ - 12) // one)])
+
+
+# ---- runs
+
+def doubling(levels: int) -> bytes:
+    """A list of a list, each of them twice, so many times: its text has 2^LEVELS numbers."""
+    lets = "".join(f"  let x{k + 1} = [x{k}; x{k}] in\n" for k in range(levels))
+    return f"let f (x0: num) =\n{lets}  x{levels}\n".encode()
+
+
+def powers(functions: int) -> bytes:
+    """Functions that each square the one before, so that the powers of their units double."""
+    lines = "".join(f"let f{k} (x: num<_>) = f{k - 1} x * f{k - 1} x\n" for k in range(1, functions))
+    return f"let f0 (x: num<_>) = x * x\n{lines}".encode()
+
+
+def many_calls() -> bytes:
+    """As many calls as fit, of one that is long to look at."""
+    front = b"let k = 1\n---\n"
+    return front + b"k\n" * ((IMAGE - len(front)) // 2)
+
+
+LOOP = b"let rec loop (n: num) : num = loop n\nlet rec deep (n: num) : num = 1 + deep n\n"
+BUDGET = "10000000"
+
+
+def cases() -> Iterator[Case]:
+    """All inputs."""
+    for count, bits in ((10_000, 11), (40_000, 13)):
+        yield Case("names", f"{count:,} measures", ["types"], lambda n=count: measures(ordinary(n)))
+        yield Case("collisions", f"{count:,} measures with colliding names", ["types"],
+                   lambda n=count, b=bits: measures(colliding(n, b)))
+    yield Case("names", "a name of 1 MiB", ["types"], lambda: filled("let ", "k", " = 1"))
+    yield Case("names", "a field's name of 16 MiB", ["exec", "9", "f"], lambda: fields(["k" * (IMAGE - 60)]))
+    yield Case("names", "100,000 fields", ["exec", "9", "f"], lambda: fields(ordinary(100_000)))
+    yield Case("collisions", "100,000 fields with colliding names", ["exec", "9", "f"],
+               lambda: fields(colliding(100_000, 14)))
+    for count in (25_000, 100_000):
+        yield Case("jumps", f"{count:,} pushes, each with a branch", ["exec", "9", "f"], lambda n=count: jumps(n))
+        yield Case("joins", f"{count:,} pushes, {count // 2:,} joins", ["exec", "9", "f"],
+                   lambda n=count: joins(n, n // 2))
+    yield Case("shapes", "2 MiB of shapes 400 high", ["exec", "9", "f0000000"], lambda: shapes(1 << 21))
+    yield Case("shapes", "16 MiB of shapes 400 high", ["exec", "9", "f0000000"], lambda: shapes(IMAGE))
+    for levels in (16, 39):
+        yield Case("doubling", f"a list doubled {levels} times", ["run", BUDGET, "f", "1"],
+                   lambda n=levels: doubling(n))
+    for command in ("run", "eval"):
+        yield Case("budget", f"10,000,000 last calls, {command}", [command, BUDGET, "loop", "1"], lambda: LOOP)
+        yield Case("budget", f"10,000,000 calls in one another, {command}", [command, BUDGET, "deep", "1"],
+                   lambda: LOOP)
+    workloads = script(ROOT / "bench" / "workloads.py")
+    for command in ("types", "prove"):
+        yield Case("equations", f"a chain of 1,560 slots, {command}", [command], lambda: workloads.chain(390).encode())
+        yield Case("equations", f"powers that double, {command}", [command], lambda: powers(2000))
+    wide = script(ROOT / "tools" / "deep_and_wide")
+    for title, text, words, _ in wide.WIDE:
+        yield Case("wide", title, words, lambda t=text: t.encode())
+    for title, text, levels in wide.FORMS:
+        yield Case("deep", f"{title}, 400 high", ["types"], lambda t=text, n=levels: t(n).encode())
+    for token in TOKENS:
+        yield Case("tokens", f"1 MiB of {token!r}", ["types"], lambda t=token: filled("let k = ", f"{t} "))
+    yield Case("calls", "16 MiB of calls", ["calls", "1"], many_calls)
