@@ -51,6 +51,7 @@ EVERY = (
     Example("beam.um", "inertia b)", "inertia (b", "inertia : Section -> num<m^4>", "moment_of_area", 2),
     Example("bill.um", "price * n", "price = 1250", "price : num<cent/item>", "cost", 2),
     Example("fall.um", "fall t", "fall (t", "fall : num<s> -> num<m>", "way", 2),
+    Example("inverse.um", "inverse (x -", "inverse (x:", "inverse : num -> num", "reciprocal", 2),
     Example("invoice.um", "q>; amount", "q> =", "'q", "'g", 3),
     Example("mean.um", "x + total r", "x :: r -> x", "x : num<'a>", "first", 2, with_parts=True),
     Example("mechanics.um", "N>) (path", "N = kg", "`kg m/s^2`", "newton", 3),
