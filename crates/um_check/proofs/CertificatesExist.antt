@@ -13,7 +13,7 @@ use Rattle.um_units.proofs.Weights.{weigh_alike}
 use Rattle.um_units.proofs.Equality.{same_unit}
 use Rattle.um_units.proofs.Group.{weight-atom, mul-inv, one-pow}
 use Rattle.um_units.proofs.Replacement.{replace-one}
-use Rattle.um_elim.specs.Turn.{substitute}
+use Rattle.um_elim.specs.ElimStep.{substitute}
 use Rattle.um_elim.specs.Elimination.{Elimination, Solved, NoSolution, Range, eliminate, on_solved, eliminate_rows}
 use Rattle.um_elim.specs.Solution.{own_variables}
 use Rattle.um_elim.proofs.Slots.{length-own}
@@ -30,25 +30,25 @@ made_row rows us k vs below made treated =
     elim treated.ends [
       | inl h ↦ (
         subst (HasInverse rows) (sym h.units) (record {
-          back = inverse_after treated.turns made.back;
+          back = inverse_after treated.steps made.back;
           divisor = made.divisor;
           positive = made.positive;
-          bases = λ n. inverse_after-base treated.turns made.back n ∙ made.bases n;
+          bases = λ n. inverse_after-base treated.steps made.back n ∙ made.bases n;
           parts = made.parts;
-          kept = kept_after rows us made.back (pos made.divisor) made.parts treated.turns treated.shears made.kept;
+          kept = kept_after rows us made.back (pos made.divisor) made.parts treated.steps treated.shears made.kept;
         }),
-        ap length h.units ∙ length-units_after treated.turns us,
+        ap length h.units ∙ length-units_after treated.steps us,
       )
       | inr h ↦ (
         subst (HasInverse rows) (sym h.units) (record {
-          back = inverse_after treated.turns made.back;
+          back = inverse_after treated.steps made.back;
           divisor = made.divisor * h.p;
           positive = positive_product made.divisor h.p made.positive h.positive;
-          bases = λ n. inverse_after-base treated.turns made.back n ∙ made.bases n;
-          parts = parts_after h.m h.p (signed_by treated.turns (total made.parts (nth rows k) k (pos made.divisor))) (units_after treated.turns us) made.parts;
-          kept = kept_row rows us made.back (pos made.divisor) made.parts k h.m h.p treated.turns made.kept below (λ n _. made.bases n) treated.shears h.left;
+          bases = λ n. inverse_after-base treated.steps made.back n ∙ made.bases n;
+          parts = parts_after h.m h.p (signed_by treated.steps (total made.parts (nth rows k) k (pos made.divisor))) (units_after treated.steps us) made.parts;
+          kept = kept_row rows us made.back (pos made.divisor) made.parts k h.m h.p treated.steps made.kept below (λ n _. made.bases n) treated.shears h.left;
         }),
-        ap length h.units ∙ length-map (units_after treated.turns us) (replace (substitute h.m one)) ∙ length-units_after treated.turns us,
+        ap length h.units ∙ length-map (units_after treated.steps us) (replace (substitute h.m one)) ∙ length-units_after treated.steps us,
       )
     ]
   where
@@ -102,8 +102,8 @@ solved_have_inverses rows slots vs below is = made_rows rows [] rows (own_variab
 refused_row : (rows us : List PowerMap) (k : ℕ) → k < length rows → VariablesBelow (length us) (nth rows k) → HasInverse rows us → IsRefusedBySteps (replace (nth us) (nth rows k)) → HasRefutation rows
 refused_row rows us k h below made refused =
     elim refused.ends [
-      | inl left ↦ record { last = k; inside = h; modulus = _; row_powers = signed_by refused.turns (total made.parts (nth rows k) k (pos made.divisor)); apart = closed_is_apart rows us made.back made.divisor made.parts k refused.turns made.positive made.kept below made.bases refused.shears left }
-      | inr stuck ↦ record { last = k; inside = h; modulus = _; row_powers = signed_by refused.turns (total made.parts (nth rows k) k (pos made.divisor)); apart = stuck_is_apart rows us made.back made.divisor made.parts k refused.turns made.positive made.kept below made.bases refused.shears stuck }
+      | inl left ↦ record { last = k; inside = h; modulus = _; row_powers = signed_by refused.steps (total made.parts (nth rows k) k (pos made.divisor)); apart = closed_is_apart rows us made.back made.divisor made.parts k refused.steps made.positive made.kept below made.bases refused.shears left }
+      | inr stuck ↦ record { last = k; inside = h; modulus = _; row_powers = signed_by refused.steps (total made.parts (nth rows k) k (pos made.divisor)); apart = stuck_is_apart rows us made.back made.divisor made.parts k refused.steps made.positive made.kept below made.bases refused.shears stuck }
     ]
 
 refused_rows : (rows front rest us : List PowerMap) (slots : ℕ) → rows ≡ front ++ rest → length us ≡ slots → All (VariablesBelow slots) rest → HasInverse rows us → eliminate_rows us rest ≡ NoSolution → HasRefutation rows

@@ -12,7 +12,7 @@ use Rattle.um_frac.proofs.Integers.{*ℤ-neg_ℤ}
 use Rattle.um_units.proofs.Weights.{weigh-product, weigh-++, weigh_alike}
 use Rattle.um_units.proofs.Equality.{same_unit}
 use Rattle.um_units.proofs.Group.{weigh-scale, weight-mul, weight-pow, weight-inv}
-use Rattle.um_elim.specs.Turn.{multiply}
+use Rattle.um_elim.specs.ElimStep.{multiply}
 use Rattle.um_elim.proofs.Cases.{on_test}
 use Rattle.um_elim.proofs.Shear.{weight-sum, replace-multiply}
 use Rattle.um_check.specs.Existence.{divided_inverse}
@@ -32,8 +32,8 @@ extension-pow f u k =
     same_unit _ _ (λ x. weight-extension (indicator x) f (pow u k) ∙ weight-pow (λ y. power_of (f y) x) u k
     ∙ sym (weight-pow (indicator x) (extension f u) k ∙ ap (λ n. k *ℤ n) (weight-extension (indicator x) f u)))
 
--- ---- a turn changes nothing of what comes back
--- the functional of what comes back after a turn
+-- ---- a step changes nothing of what comes back
+-- the functional of what comes back after a step
 weight-divided : (g : Atom → ℤ) (m : ℕ) (w : PowerMap) (back : Atom → PowerMap) (y : Atom) → weight g (divided_inverse m w back y) ≡ weight g (back y) +ℤ indicator (Var m) y *ℤ neg_ℤ (weight (λ z. weight g (back z)) w)
 weight-divided g m w back y =
     on_test (same_atom (Var m) y)
@@ -46,8 +46,8 @@ weight-divided g m w back y =
     never : (a b : ℤ) → a ≡ a +ℤ pos 0 *ℤ b
     never a b = omega (arith, ints)
 
-pub extension-turn : (m : ℕ) (w : PowerMap) (back : Atom → PowerMap) (u : PowerMap) → power_of w (Var m) ≡ pos 0 → extension (divided_inverse m w back) (replace (multiply m w) u) ≡ extension back u
-extension-turn m w back u free = same_unit _ _ at
+pub extension-step : (m : ℕ) (w : PowerMap) (back : Atom → PowerMap) (u : PowerMap) → power_of w (Var m) ≡ pos 0 → extension (divided_inverse m w back) (replace (multiply m w) u) ≡ extension back u
+extension-step m w back u free = same_unit _ _ at
   where
     -- both sides at a functional
     after : (g : Atom → ℤ) (v : PowerMap) → weight g (extension (divided_inverse m w back) v) ≡ weight (λ y. weight g (back y)) v +ℤ power_of v (Var m) *ℤ neg_ℤ (weight (λ z. weight g (back z)) w)

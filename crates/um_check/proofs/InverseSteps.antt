@@ -1,4 +1,4 @@
--- The invariant of making: a turn keeps it, and so does the end of a row.
+-- The invariant of making: a step keeps it, and so does the end of a row.
 use Rattle.std.proofs.Common.{◌≡◌, ◌≢◌, ℕ, ◌<◌, Bool, true, false, List, [], ◌∷◌, map, length, ℤ, pos, negsuc, neg_ℤ, ◌+ℤ◌, ◌*ℤ◌, refl, sym, ap, ◌∙◌, subst, arith}
 use Rattle.std.specs.Prelude.{All}
 use Rattle.std.proofs.lemmas.Int.{ints}
@@ -16,14 +16,14 @@ use Rattle.um_units.proofs.Weights.{weigh_alike}
 use Rattle.um_units.proofs.Equality.{same_unit}
 use Rattle.um_units.proofs.Group.{weight-one, weight-atom, weight-mul, weight-pow, weight-inv, pow-pow}
 use Rattle.um_units.proofs.Replacement.{weight-replace, weight_held, replace-one, replace-mul, replace-pow, nth-map}
-use Rattle.um_elim.specs.Turn.{substitute, multiply}
+use Rattle.um_elim.specs.ElimStep.{substitute, multiply}
 use Rattle.um_elim.proofs.Shear.{replace-multiply, substitute-one}
-use Rattle.um_elim.specs.declared.turning.Turn.{Turn}
-use Rattle.um_elim.specs.Turn.{signed}
+use Rattle.um_elim.specs.declared.elim_step.ElimStep.{ElimStep}
+use Rattle.um_elim.specs.ElimStep.{signed}
 use Rattle.um_elim.specs.EliminationSteps.{IsShear, unit_after, units_after}
 use Rattle.um_check.specs.Existence.{signed_by, divided_inverse, inverse_after, IsInverse, at_slot, total, parts_after}
 use Rattle.um_units.proofs.Replacement.{extension-mul, extension-atom}
-use Rattle.um_check.proofs.Extensions.{weight-extension, extension-pow, extension-turn}
+use Rattle.um_check.proofs.Extensions.{weight-extension, extension-pow, extension-step}
 
 -- ---- signs
 extension-signed : (f : Atom → PowerMap) (b : Bool) (u : PowerMap) → extension f (signed b u) ≡ signed b (extension f u)
@@ -38,39 +38,39 @@ pow-signed : (b : Bool) (u : PowerMap) (k : ℤ) → pow (signed b u) k ≡ sign
 pow-signed true u k = pow-pow u (negsuc 0) k ∙ ap (pow u) (*ℤ_comm k (negsuc 0)) ∙ sym (pow-pow u k (negsuc 0))
 pow-signed false u k = refl
 
-pub replace-signed_by : (s : ℕ → PowerMap) (ts : List Turn) (u : PowerMap) → replace s (signed_by ts u) ≡ signed_by ts (replace s u)
+pub replace-signed_by : (s : ℕ → PowerMap) (ts : List ElimStep) (u : PowerMap) → replace s (signed_by ts u) ≡ signed_by ts (replace s u)
 replace-signed_by s [] u = refl
 replace-signed_by s (t ∷ ts) u = replace-signed_by s ts (signed t.inverted u) ∙ ap (signed_by ts) (replace-signed s t.inverted u)
 
-pub pow-signed_by : (ts : List Turn) (u : PowerMap) (k : ℤ) → pow (signed_by ts u) k ≡ signed_by ts (pow u k)
+pub pow-signed_by : (ts : List ElimStep) (u : PowerMap) (k : ℤ) → pow (signed_by ts u) k ≡ signed_by ts (pow u k)
 pow-signed_by [] u k = refl
 pow-signed_by (t ∷ ts) u k = pow-signed_by ts (signed t.inverted u) k ∙ ap (signed_by ts) (pow-signed t.inverted u k)
 
--- ---- what the turns leave of what comes back
-pub length-units_after : (ts : List Turn) (us : List PowerMap) → length (units_after ts us) ≡ length us
+-- ---- what the steps leave of what comes back
+pub length-units_after : (ts : List ElimStep) (us : List PowerMap) → length (units_after ts us) ≡ length us
 length-units_after [] us = refl
 length-units_after (t ∷ ts) us = length-units_after ts (map (replace (multiply t.variable t.by)) us) ∙ length-map us (replace (multiply t.variable t.by))
 
-pub units_come_back : (ts : List Turn) (us : List PowerMap) (back : Atom → PowerMap) (j : ℕ) → All IsShear ts → j < length us → extension (inverse_after ts back) (nth (units_after ts us) j) ≡ extension back (nth us j)
+pub units_come_back : (ts : List ElimStep) (us : List PowerMap) (back : Atom → PowerMap) (j : ℕ) → All IsShear ts → j < length us → extension (inverse_after ts back) (nth (units_after ts us) j) ≡ extension back (nth us j)
 units_come_back [] us back j h l = refl
 units_come_back (t ∷ ts) us back j h l =
     units_come_back ts (map (replace (multiply t.variable t.by)) us) (divided_inverse t.variable t.by back) j (All-tail IsShear t ts h) (subst (λ n. j < n) (sym (length-map us (replace (multiply t.variable t.by)))) l)
     ∙ ap (extension (divided_inverse t.variable t.by back)) (nth-map (replace (multiply t.variable t.by)) us j l)
-    ∙ extension-turn t.variable t.by back (nth us j) (All-head IsShear t ts h)
+    ∙ extension-step t.variable t.by back (nth us j) (All-head IsShear t ts h)
 
-pub unit_comes_back : (ts : List Turn) (r : PowerMap) (back : Atom → PowerMap) → All IsShear ts → extension (inverse_after ts back) (unit_after ts r) ≡ signed_by ts (extension back r)
+pub unit_comes_back : (ts : List ElimStep) (r : PowerMap) (back : Atom → PowerMap) → All IsShear ts → extension (inverse_after ts back) (unit_after ts r) ≡ signed_by ts (extension back r)
 unit_comes_back [] r back h = refl
 unit_comes_back (t ∷ ts) r back h =
     unit_comes_back ts (replace (multiply t.variable t.by) (signed t.inverted r)) (divided_inverse t.variable t.by back) (All-tail IsShear t ts h)
-    ∙ ap (signed_by ts) (extension-turn t.variable t.by back (signed t.inverted r) (All-head IsShear t ts h) ∙ extension-signed back t.inverted r)
+    ∙ ap (signed_by ts) (extension-step t.variable t.by back (signed t.inverted r) (All-head IsShear t ts h) ∙ extension-signed back t.inverted r)
 
 -- base units come back as before
-pub inverse_after-base : (ts : List Turn) (back : Atom → PowerMap) (n : ℕ) → inverse_after ts back (Base n) ≡ back (Base n)
+pub inverse_after-base : (ts : List ElimStep) (back : Atom → PowerMap) (n : ℕ) → inverse_after ts back (Base n) ≡ back (Base n)
 inverse_after-base [] back n = refl
 inverse_after-base (t ∷ ts) back n = inverse_after-base ts (divided_inverse t.variable t.by back) n
 
--- the turns keep the invariant
-pub kept_after : (rows solution : List PowerMap) (back : Atom → PowerMap) (divisor : ℤ) (parts : ℕ → PowerMap) (ts : List Turn) → All IsShear ts →
+-- the steps keep the invariant
+pub kept_after : (rows solution : List PowerMap) (back : Atom → PowerMap) (divisor : ℤ) (parts : ℕ → PowerMap) (ts : List ElimStep) → All IsShear ts →
     IsInverse rows solution back divisor parts → IsInverse rows (units_after ts solution) (inverse_after ts back) divisor parts
 kept_after rows solution back divisor parts ts h kept = record { by_rows = at }
   where
@@ -205,8 +205,8 @@ kept_end rows solution back divisor parts m p t kept e = record { by_rows = λ j
         ∙ ap (λ n. (divisor *ℤ pos p) *ℤ (power_of (extension back u) z +ℤ neg_ℤ (power_of (atom (Var j)) z)) +ℤ n)
         (weight-pow (indicator z) (pow (back (Var m)) (divisor *ℤ pos p)) (neg_ℤ (power_of u (Var m))) ∙ ap (λ n. neg_ℤ (power_of u (Var m)) *ℤ n) (weight-pow (indicator z) (back (Var m)) (divisor *ℤ pos p)))
 
--- ---- a whole row: the turns, and then x becomes 1 where r is left as x^p
-pub kept_row : (rows solution : List PowerMap) (back : Atom → PowerMap) (divisor : ℤ) (parts : ℕ → PowerMap) (k m p : ℕ) (ts : List Turn) → IsInverse rows solution back divisor parts →
+-- ---- a whole row: the steps, and then x becomes 1 where r is left as x^p
+pub kept_row : (rows solution : List PowerMap) (back : Atom → PowerMap) (divisor : ℤ) (parts : ℕ → PowerMap) (k m p : ℕ) (ts : List ElimStep) → IsInverse rows solution back divisor parts →
     VariablesBelow (length solution) (nth rows k) → ((n : ℕ) → power_of (nth rows k) (Base n) ≢ pos 0 → back (Base n) ≡ atom (Base n)) →
     All IsShear ts → unit_after ts (replace (nth solution) (nth rows k)) ≡ pow (atom (Var m)) (pos p) →
     IsInverse rows (map (replace (substitute m one)) (units_after ts solution)) (inverse_after ts back) (divisor *ℤ pos p)

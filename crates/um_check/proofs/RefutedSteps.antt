@@ -1,4 +1,4 @@
--- Where a row's turns end with a base unit left, the numbers t are a No.
+-- Where a row's steps end with a base unit left, the numbers t are a No.
 use Rattle.std.proofs.Common.{◌≡◌, ◌≢◌, ℕ, zero, suc, ◌<◌, false, List, [], ◌∷◌, length, ◌+◌, nat_abs, ℤ, pos, negsuc, neg_ℤ, ◌+ℤ◌, ◌*ℤ◌, refl, sym, ap, ◌∙◌, arith}
 use Rattle.std.specs.Prelude.{◌==◌, All}
 use Rattle.std.proofs.lemmas.Int.{ints}
@@ -17,14 +17,14 @@ use Rattle.um_units.proofs.Replacement.{weight_held}
 use Rattle.um_elim.proofs.Cases.{on_test}
 use Rattle.um_elim.proofs.Shear.{weight-sum}
 use Rattle.um_check.specs.Refutation.{IsApart}
-use Rattle.um_elim.specs.declared.turning.Turn.{Turn}
+use Rattle.um_elim.specs.declared.elim_step.ElimStep.{ElimStep}
 use Rattle.um_elim.specs.EliminationSteps.{IsShear, unit_after, IsStuck, IsClosedLeft}
 use Rattle.um_check.specs.Existence.{signed_by, inverse_after, IsInverse, total}
 use Rattle.um_check.proofs.Extensions.{weight-extension}
 use Rattle.um_check.proofs.InverseSteps.{unit_comes_back, pow-signed_by, replace-signed_by, total_is, inverse_after-base}
 
--- the product of the rows to the powers t is what comes back of r as the turns leave it, to the divisor
-pub rows_are : (rows solution : List PowerMap) (back : Atom → PowerMap) (divisor : ℤ) (parts : ℕ → PowerMap) (k : ℕ) (ts : List Turn) → IsInverse rows solution back divisor parts →
+-- the product of the rows to the powers t is what comes back of r as the steps leave it, to the divisor
+pub rows_are : (rows solution : List PowerMap) (back : Atom → PowerMap) (divisor : ℤ) (parts : ℕ → PowerMap) (k : ℕ) (ts : List ElimStep) → IsInverse rows solution back divisor parts →
     VariablesBelow (length solution) (nth rows k) → ((n : ℕ) → power_of (nth rows k) (Base n) ≢ pos 0 → back (Base n) ≡ atom (Base n)) → All IsShear ts →
     replace (nth rows) (signed_by ts (total parts (nth rows k) k divisor)) ≡ pow (extension (inverse_after ts back) (unit_after ts (replace (nth solution) (nth rows k)))) divisor
 rows_are rows solution back divisor parts k ts kept below bases shears =
@@ -91,7 +91,7 @@ no_part d p e b q h i l same =
     gathered x y z e f g = omega (arith, ints, f, g)
 
 -- the No of a row that is stuck
-pub stuck_is_apart : (rows solution : List PowerMap) (back : Atom → PowerMap) (divisor : ℕ) (parts : ℕ → PowerMap) (k : ℕ) (ts : List Turn) → 0 < divisor → IsInverse rows solution back (pos divisor) parts →
+pub stuck_is_apart : (rows solution : List PowerMap) (back : Atom → PowerMap) (divisor : ℕ) (parts : ℕ → PowerMap) (k : ℕ) (ts : List ElimStep) → 0 < divisor → IsInverse rows solution back (pos divisor) parts →
     VariablesBelow (length solution) (nth rows k) → ((n : ℕ) → back (Base n) ≡ atom (Base n)) → All IsShear ts → (stuck : IsStuck ts (replace (nth solution) (nth rows k))) →
     IsApart (pos divisor *ℤ pos stuck.p) (replace (nth rows) (signed_by ts (total parts (nth rows k) k (pos divisor))))
 stuck_is_apart rows solution back divisor parts k ts h kept below bases shears stuck = record {
@@ -134,7 +134,7 @@ no_whole d e q h n same = at e n (pos-*ℤ-zero d (e +ℤ neg_ℤ (pos (nat_abs 
         gathered : (j : ℕ) (x : ℤ) → negsuc j +ℤ neg_ℤ x ≡ pos 0 → x +ℤ pos (suc j) ≡ pos 0
         gathered j x f = omega (arith, ints, f)
 
-pub closed_is_apart : (rows solution : List PowerMap) (back : Atom → PowerMap) (divisor : ℕ) (parts : ℕ → PowerMap) (k : ℕ) (ts : List Turn) → 0 < divisor → IsInverse rows solution back (pos divisor) parts →
+pub closed_is_apart : (rows solution : List PowerMap) (back : Atom → PowerMap) (divisor : ℕ) (parts : ℕ → PowerMap) (k : ℕ) (ts : List ElimStep) → 0 < divisor → IsInverse rows solution back (pos divisor) parts →
     VariablesBelow (length solution) (nth rows k) → ((n : ℕ) → back (Base n) ≡ atom (Base n)) → All IsShear ts → (left : IsClosedLeft ts (replace (nth solution) (nth rows k))) →
     IsApart (pos divisor *ℤ pos (nat_abs (power_of (unit_after ts (replace (nth solution) (nth rows k))) (Base left.n)) + 1)) (replace (nth rows) (signed_by ts (total parts (nth rows k) k (pos divisor))))
 closed_is_apart rows solution back divisor parts k ts h kept below bases shears left = record {

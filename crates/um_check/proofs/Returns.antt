@@ -8,7 +8,7 @@ use Rattle.std.proofs.lemmas.List.{length-map, ext_get_or, get_or-map, get_or_de
 use Rattle.std.proofs.lemmas.List.Elements.{All-get_or}
 use Rattle.um_units.specs.declared.Atom.TheVariants.{Var}
 use Rattle.um_units.specs.PowerMap.{PowerMap, one, atom, mul, inv, pow, replace, nth}
-use Rattle.um_units.specs.Solutions.{IsInstance, IsJointSolution}
+use Rattle.um_units.specs.Solutions.{IsSubstitutionInstance, IsJointSolution}
 use Rattle.um_units.proofs.Group.{pow-torsion_free, same_from_quotient}
 use Rattle.um_units.proofs.Replacement.{replace-inv, replace-mul, replace-pow, replace-variable, replace-replace, replace-nth_map}
 use Rattle.um_units.proofs.Solutions.{IsJointSolution-instance}
@@ -38,7 +38,7 @@ came_back v solution back j divisor u positive e solved =
 
 -- each joint solution is an instance
 every_solution : (slots : ℕ) (rows solution back : List PowerMap) (divisor : ℤ) (parts : List (List Part)) (v : List PowerMap) → length solution ≡ slots →
-    ComesBack slots rows solution back divisor parts → IsJointSolution slots rows v → IsInstance solution v
+    ComesBack slots rows solution back divisor parts → IsJointSolution slots rows v → IsSubstitutionInstance solution v
 every_solution slots rows solution back divisor parts v l c joint =
     ((λ k. replace (nth v) (nth back k)), ext_get_or one (map (replace (λ k. replace (nth v) (nth back k))) solution) v (length-map solution (replace (λ k. replace (nth v) (nth back k))) ∙ l ∙ sym joint.per_slot) at)
   where

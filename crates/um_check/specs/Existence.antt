@@ -9,8 +9,8 @@ use Rattle.um_units.specs.Atoms.{same_atom}
 use Rattle.um_units.specs.PowerMap.{PowerMap, product, power_of, one, atom, mul, inv, pow, replace, nth, extension}
 use Rattle.um_check.specs.declared.certificate.Part.{Part}
 use Rattle.um_check.specs.Refutation.{IsApart}
-use Rattle.um_elim.specs.declared.turning.Turn.{Turn}
-use Rattle.um_elim.specs.Turn.{signed}
+use Rattle.um_elim.specs.declared.elim_step.ElimStep.{ElimStep}
+use Rattle.um_elim.specs.ElimStep.{signed}
 
 -- ---- the inverse substitution: a unit for each atom. Powers of rows are units over the variables that are the rows'
 -- numbers
@@ -24,7 +24,7 @@ pub record IsInverse
 -- ---- elimination steps
 
 -- inverted as often as the steps invert
-abbrev pub signed_by : List Turn → PowerMap → PowerMap
+abbrev pub signed_by : List ElimStep → PowerMap → PowerMap
 signed_by [] u = u
 signed_by (t ∷ ts) u = signed_by ts (signed t.inverted u)
 
@@ -32,7 +32,7 @@ signed_by (t ∷ ts) u = signed_by ts (signed t.inverted u)
 abbrev pub divided_inverse : ℕ → PowerMap → (Atom → PowerMap) → Atom → PowerMap
 divided_inverse m w back y = if same_atom (Var m) y then mul (back y) (inv (extension back w)) else back y
 
-abbrev pub inverse_after : List Turn → (Atom → PowerMap) → Atom → PowerMap
+abbrev pub inverse_after : List ElimStep → (Atom → PowerMap) → Atom → PowerMap
 inverse_after [] back = back
 inverse_after (t ∷ ts) back = inverse_after ts (divided_inverse t.variable t.by back)
 

@@ -17,13 +17,13 @@ use Rattle.um_tree.specs.ProgramTree.{Signature}
 use Rattle.um_tree.specs.Typing.{put, put_signature, moved}
 use Rattle.um_tree.specs.Scheme.{signature_types}
 use Rattle.um_tree.proofs.Homomorphisms.{power_of-h}
-use Rattle.um_elim.specs.declared.turning.Turn.{Turn}
-use Rattle.um_elim.specs.Turn.{substitute, multiply, quotients, inverted_if_negative, signed, is_negative, IsTurnOf}
+use Rattle.um_elim.specs.declared.elim_step.ElimStep.{ElimStep}
+use Rattle.um_elim.specs.ElimStep.{substitute, multiply, quotients, inverted_if_negative, signed, is_negative, IsStepOf}
 use Rattle.um_elim.specs.Elimination.{Elimination, Solved, NoSolution, Range, eliminate}
 use Rattle.um_elim.specs.Numbering.{variable_order, by_place, place}
 use Rattle.um_elim.specs.Solution.{own_variables, rigid_unit, rigid_units}
 use Rattle.um_elim.proofs.Cases.{on_test}
-use Rattle.um_elim.proofs.TurnLaws.{less, less-zero, power_of-quotients}
+use Rattle.um_elim.proofs.StepLaws.{less, less-zero, power_of-quotients}
 use Rattle.um_elim.proofs.Slots.{length-rigid}
 use Rattle.um_elim.specs.EliminationSteps.{units_after, AreStepsOf}
 use Rattle.um_elim.proofs.FollowedSteps.{eliminate_treated}
@@ -39,7 +39,7 @@ weigh_zero [] = refl
 weigh_zero (t ∷ ts) = ap (λ z. t.power *ℤ pos 0 +ℤ z) (weigh_zero ts) ∙ tail_only t.power (pos 0)
 
 module _ (m : ℕ) where
-  -- ---- turns
+  -- ---- steps
   signed_lacks : (a : ℤ) (r : PowerMap) → Lacks m r → Lacks m (signed (is_negative a) r)
   signed_lacks (pos n) r h = h
   signed_lacks (negsuc n) r h = inv_lacks m r h
@@ -54,31 +54,31 @@ module _ (m : ℕ) where
   substitute_lacks : (k : ℕ) (w : PowerMap) → Lacks m w → (j : ℕ) → Lacks m (substitute k w j)
   substitute_lacks k w h j = on_test (k == j) (λ e. rw e h) (λ e. rw e (variable_lacks m j))
 
-  -- a turn of a unit that lacks it brings it into no unit
-  by_lacks : (r : PowerMap) (t : Turn) → IsTurnOf r t → Lacks m r → Lacks m t.by
-  by_lacks r t w h = subst (λ (s : Turn). Lacks m s.by) (sym w.2) (quotients_lack w.0.variable (nat_abs w.0.power) (inverted_if_negative w.0.power r) (inverted_lacks w.0.power r h))
+  -- a step of a unit that lacks it brings it into no unit
+  by_lacks : (r : PowerMap) (t : ElimStep) → IsStepOf r t → Lacks m r → Lacks m t.by
+  by_lacks r t w h = subst (λ (s : ElimStep). Lacks m s.by) (sym w.2) (quotients_lack w.0.variable (nat_abs w.0.power) (inverted_if_negative w.0.power r) (inverted_lacks w.0.power r h))
 
-  multiply_lacks : (r : PowerMap) (t : Turn) → IsTurnOf r t → Lacks m r → (j : ℕ) → Lacks m (multiply t.variable t.by j)
+  multiply_lacks : (r : PowerMap) (t : ElimStep) → IsStepOf r t → Lacks m r → (j : ℕ) → Lacks m (multiply t.variable t.by j)
   multiply_lacks r t w h = substitute_lacks t.variable (mul (atom (Var t.variable)) t.by) (mul_lacks m (atom (Var t.variable)) t.by (variable_lacks m t.variable) (by_lacks r t w h))
 
-  turned_lacks : (r : PowerMap) (t : Turn) → IsTurnOf r t → Lacks m r → Lacks m (signed t.inverted r)
-  turned_lacks r t w h = subst (λ (s : Turn). Lacks m (signed s.inverted r)) (sym w.2) (signed_lacks w.0.power r h)
+  unit_after_step_lacks : (r : PowerMap) (t : ElimStep) → IsStepOf r t → Lacks m r → Lacks m (signed t.inverted r)
+  unit_after_step_lacks r t w h = subst (λ (s : ElimStep). Lacks m (signed s.inverted r)) (sym w.2) (signed_lacks w.0.power r h)
 
-  after_lack : (ts : List Turn) (r : PowerMap) (us : List PowerMap) → AreStepsOf r ts → Lacks m r → All (Lacks m) us → All (Lacks m) (units_after ts us)
+  after_lack : (ts : List ElimStep) (r : PowerMap) (us : List PowerMap) → AreStepsOf r ts → Lacks m r → All (Lacks m) us → All (Lacks m) (units_after ts us)
   after_lack [] r us w h all = all
   after_lack (t ∷ ts) r us w h all =
       let s = multiply t.variable t.by in
       let each = multiply_lacks r t w.0 h in
-      after_lack ts (replace s (signed t.inverted r)) (map (replace s) us) w.1 (replace_lacks m s each (signed t.inverted r) (turned_lacks r t w.0 h)) (all_replaced m s each us all)
+      after_lack ts (replace s (signed t.inverted r)) (map (replace s) us) w.1 (replace_lacks m s each (signed t.inverted r) (unit_after_step_lacks r t w.0 h)) (all_replaced m s each us all)
 
   eliminated_lack : (us : List PowerMap) (row : PowerMap) (vs : List PowerMap) → eliminate us row ≡ Solved vs → Lacks m row → All (Lacks m) us → All (Lacks m) vs
   eliminated_lack us row vs e h all =
       let treated = eliminate_treated us row vs e in
       let r = replace (nth us) row in
-      let left = after_lack treated.turns r us treated.are (replace_lacks m (nth us) (nth_lacks m us all) row h) all in
+      let left = after_lack treated.steps r us treated.are (replace_lacks m (nth us) (nth_lacks m us all) row h) all in
       elim treated.ends [
         | inl ends ↦ subst (All (Lacks m)) (sym ends.units) left
-        | inr ends ↦ subst (All (Lacks m)) (sym ends.units) (all_replaced m (substitute ends.m one) (substitute_lacks ends.m one (one_lacks m)) (units_after treated.turns us) left)
+        | inr ends ↦ subst (All (Lacks m)) (sym ends.units) (all_replaced m (substitute ends.m one) (substitute_lacks ends.m one (one_lacks m)) (units_after treated.steps us) left)
       ]
 
   -- ---- row after row

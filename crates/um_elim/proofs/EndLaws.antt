@@ -15,11 +15,11 @@ use Rattle.um_units.proofs.Equality.{same_unit}
 use Rattle.um_units.proofs.Group.{weight-one, weight-atom, weight-pow, one-pow}
 use Rattle.um_units.proofs.Replacement.{weight-replace, weight_held, replace-one, replace-pow, replace-variable}
 use Rattle.um_elim.specs.Pivot.{has_other, has_base}
-use Rattle.um_elim.specs.Turn.{substitute}
+use Rattle.um_elim.specs.ElimStep.{substitute}
 use Rattle.um_elim.proofs.Cases.{on_test}
 use Rattle.um_elim.proofs.Shear.{weight-sum}
 use Rattle.um_elim.proofs.PivotLaws.{some_base, no_base, no_other}
-use Rattle.um_elim.proofs.TurnLaws.{IsRemainder}
+use Rattle.um_elim.proofs.StepLaws.{IsRemainder}
 
 -- ---- a base unit is left
 -- the power of a base unit where no variable but m is replaced

@@ -16,11 +16,11 @@ use Rattle.um_units.proofs.Group.{weight-inv, power_of-atom, power_of-other_atom
 use Rattle.um_units.proofs.InRange.{fits-power_of, fits_from_powers}
 use Rattle.um_elim.specs.declared.pivot.Pivot.{Pivot}
 use Rattle.um_elim.specs.Pivot.{pivot}
-use Rattle.um_elim.specs.Turn.{substitute, quotients}
+use Rattle.um_elim.specs.ElimStep.{substitute, quotients}
 use Rattle.um_elim.proofs.Cases.{on_test}
 use Rattle.um_elim.proofs.Shear.{power_of-multiply, substitute-one}
 use Rattle.um_elim.proofs.PivotLaws.{is_pivot}
-use Rattle.um_elim.proofs.TurnLaws.{power_of-quotients_pivot, power_of-quotients_other, positive_size}
+use Rattle.um_elim.proofs.StepLaws.{power_of-quotients_pivot, power_of-quotients_other, positive_size}
 
 -- a quotient is no greater than what is divided
 quotient-low : (a : ℤ) (p : ℕ) → 0 < p → nat_abs (neg_ℤ (int_div_euclid a (pos p))) ≤ nat_abs a

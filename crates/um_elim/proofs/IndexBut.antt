@@ -13,16 +13,16 @@ use Rattle.um_units.specs.Range.{fits}
 use Rattle.um_units.specs.Variables.{VariablesBelow, variables_below}
 use Rattle.um_units.proofs.Group.{power_of-mul, power_of-inv, power_of-atom, power_of-other_atom}
 use Rattle.um_units.proofs.Variables.{variables_below-from_VariablesBelow}
-use Rattle.um_elim.specs.Turn.{multiply}
+use Rattle.um_elim.specs.ElimStep.{multiply}
 use Rattle.um_elim.specs.Index.{holds, holders, holders_from, followed_terms, IsIndex}
 use Rattle.um_elim.proofs.Cases.{on_test}
 use Rattle.um_elim.proofs.Shear.{power_of-multiply}
 use Rattle.um_elim.proofs.FirstOccurrences.{member}
 use Rattle.um_elim.proofs.RenamedUnits.{term_variables}
 use Rattle.um_elim.proofs.VariablesKept.{replaced_below}
-use Rattle.um_elim.proofs.LastTurn.{over_variable, over_variable-below}
+use Rattle.um_elim.proofs.LastStep.{over_variable, over_variable-below}
 use Rattle.um_elim.proofs.IndexLaws.{length-followed_terms, list_follows}
-use Rattle.um_elim.proofs.IndexTurn.{held_as_before, not_listed, multiply_stays}
+use Rattle.um_elim.proofs.IndexStep.{held_as_before, not_listed, multiply_stays}
 
 -- the index but for the list of m
 abbrev pub IsIndexBut : ℕ → List PowerMap → List (List ℕ) → Type 0

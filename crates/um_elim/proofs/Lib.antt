@@ -2,17 +2,17 @@ pub mod Cases
 pub mod Filters
 pub mod Shear
 pub mod PivotLaws
-pub mod TurnLaws
+pub mod StepLaws
 pub mod EndLaws
 pub mod MostGeneral
 pub mod Rows
 mod Examples
 pub mod InRange
 mod Changes
-mod SingleTurns
+mod SingleSteps
 mod NumberedAlready
-mod TurnSteps
-mod LastTurn
+mod StepsOfCode
+mod LastStep
 pub mod Slots
 mod Added
 pub mod JointRows
@@ -24,9 +24,9 @@ pub mod VariablesKept
 pub mod Holders
 pub mod IndexLaws
 pub mod HeldSlots
-pub mod IndexTurn
+pub mod IndexStep
 mod IndexBut
-pub mod TurnKept
+pub mod StepVariables
 pub mod FirstIndex
 pub mod SingleAtoms
 pub mod FollowedSteps

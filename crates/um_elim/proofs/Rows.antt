@@ -10,16 +10,16 @@ use Rattle.um_units.specs.Range.{fits}
 use Rattle.um_units.specs.Variables.{VariablesBelow}
 use Rattle.um_units.specs.Solutions.{Solves, IsSolvable}
 use Rattle.um_units.proofs.Replacement.{replace-nth_map}
-use Rattle.um_units.proofs.Solutions.{IsJointSolution-append, IsJointSolution-front, Solves-back, length-instance, IsInstance_refl}
+use Rattle.um_units.proofs.Solutions.{IsJointSolution-append, IsJointSolution-front, Solves-back, length-instance, IsSubstitutionInstance_refl}
 use Rattle.um_elim.specs.declared.pivot.Pivot.{Pivot}
 use Rattle.um_elim.specs.Pivot.{pivot, size, least_power, has_other}
-use Rattle.um_elim.specs.Turn.{turn, inverted_if_negative}
-use Rattle.um_elim.specs.Elimination.{Elimination, Solved, NoSolution, Range, after_turn, turn_at, turns, eliminate}
+use Rattle.um_elim.specs.ElimStep.{step, inverted_if_negative}
+use Rattle.um_elim.specs.Elimination.{Elimination, Solved, NoSolution, Range, after_step, step_at, steps, eliminate}
 use Rattle.um_elim.specs.Instances.{Satisfies, IsMostGeneral, IsUnsatisfiable, IsRight, SolvesExactly}
 use Rattle.um_elim.proofs.Cases.{on_test}
 use Rattle.um_elim.proofs.PivotLaws.{is_pivot}
-use Rattle.um_elim.proofs.TurnLaws.{power_of-turn_other, least_power-falls, positive_pivot, positive_size}
-use Rattle.um_elim.proofs.MostGeneral.{IsSound, turns_sound}
+use Rattle.um_elim.proofs.StepLaws.{power_of-step_other, least_power-falls, positive_pivot, positive_size}
+use Rattle.um_elim.proofs.MostGeneral.{IsSound, steps_sound}
 
 -- ---- one row
 right_from_sound : (old : List PowerMap) (row : PowerMap) → VariablesBelow (length old) row → (o : Elimination) → IsSound old (replace (nth old) row) o → IsRight old row o
@@ -34,7 +34,7 @@ pub eliminate_right : (old : List PowerMap) (row : PowerMap) → VariablesBelow 
 eliminate_right old row h =
     let r = replace (nth old) row in
     on_test (fits r)
-    (λ e. rw e (right_from_sound old row h _ (turns_sound (suc (least_power r)) old r (omega arith))))
+    (λ e. rw e (right_from_sound old row h _ (steps_sound (suc (least_power r)) old r (omega arith))))
     (λ e. rw e tt)
 
 pub solved_is_most_general : (old : List PowerMap) (row : PowerMap) (new : List PowerMap) → VariablesBelow (length old) row → eliminate old row ≡ Solved new → IsMostGeneral old row new
@@ -44,7 +44,7 @@ pub refused_is_unsatisfiable : (old : List PowerMap) (row : PowerMap) → Variab
 refused_is_unsatisfiable old row h e = subst (IsRight old row) e (eliminate_right old row h)
 
 pub length-solved : (old : List PowerMap) (row : PowerMap) (new : List PowerMap) → IsMostGeneral old row new → length new ≡ length old
-length-solved old row new g = length-instance old new ((g new).0 (IsInstance_refl new)).0
+length-solved old row new g = length-instance old new ((g new).0 (IsSubstitutionInstance_refl new)).0
 
 -- ---- rows one after another
 single : (s : ℕ → PowerMap) (row : PowerMap) → replace s row ≡ one → Solves s (row ∷ [])
@@ -65,26 +65,26 @@ unsolvable-more slots rows row old exact g solvable =
     let joint = solvable.1 in
     g v ((exact v).1 (IsJointSolution-front slots rows (row ∷ []) v joint)) (last_row (nth v) rows row joint.solves)
 
--- ---- more turns than are needed change nothing
-after_turn-alike : (f g : List PowerMap → PowerMap → Elimination) (m : ℕ) (us : List PowerMap) (r : PowerMap) → (has_other m r ≡ true → f us r ≡ g us r) → after_turn f m us r ≡ after_turn g m us r
-after_turn-alike f g m us r same = on_test (fits r && list_all fits us)
+-- ---- more steps than are needed change nothing
+after_step-alike : (f g : List PowerMap → PowerMap → Elimination) (m : ℕ) (us : List PowerMap) (r : PowerMap) → (has_other m r ≡ true → f us r ≡ g us r) → after_step f m us r ≡ after_step g m us r
+after_step-alike f g m us r same = on_test (fits r && list_all fits us)
     (λ e. rw e (on_test (has_other m r) (λ o. rw o (same o)) (λ o. rw o)))
     (λ e. rw e)
 
-turn_at-alike : (f g : List PowerMap → PowerMap → Elimination) (us : List PowerMap) (r : PowerMap) (o : Option Pivot) → pivot r ≡ o →
-    ((vs : List PowerMap) (v : PowerMap) → least_power v < size o → f vs v ≡ g vs v) → turn_at f us r o ≡ turn_at g us r o
-turn_at-alike f g us r None e same = refl
-turn_at-alike f g us r (Some t) e same =
+step_at-alike : (f g : List PowerMap → PowerMap → Elimination) (us : List PowerMap) (r : PowerMap) (o : Option Pivot) → pivot r ≡ o →
+    ((vs : List PowerMap) (v : PowerMap) → least_power v < size o → f vs v ≡ g vs v) → step_at f us r o ≡ step_at g us r o
+step_at-alike f g us r None e same = refl
+step_at-alike f g us r (Some t) e same =
     let found = is_pivot r t e in
     let m = t.variable in
     let p = nat_abs t.power in
     let q = inverted_if_negative t.power r in
     let at : power_of q (Var m) ≡ pos p = positive_pivot t.power m r found.is in
     let h : 0 < p = positive_size t.power found.nonzero in
-    after_turn-alike f g m (map (replace (turn m p q)) us) (replace (turn m p q) q)
-    (λ o. same (map (replace (turn m p q)) us) (replace (turn m p q) q) (least_power-falls m p (replace (turn m p q) q) (power_of-turn_other m p q h at) o))
+    after_step-alike f g m (map (replace (step m p q)) us) (replace (step m p q) q)
+    (λ o. same (map (replace (step m p q)) us) (replace (step m p q) q) (least_power-falls m p (replace (step m p q) q) (power_of-step_other m p q h at) o))
 
-pub turns-enough : (n m : ℕ) (us : List PowerMap) (r : PowerMap) → least_power r < n → least_power r < m → turns n us r ≡ turns m us r
-turns-enough zero m us r h k = absurd (omega (arith, h))
-turns-enough (suc n) zero us r h k = absurd (omega (arith, k))
-turns-enough (suc n) (suc m) us r h k = turn_at-alike (turns n) (turns m) us r (pivot r) refl (λ vs v l. turns-enough n m vs v (omega (arith, l, h)) (omega (arith, l, k)))
+pub steps-enough : (n m : ℕ) (us : List PowerMap) (r : PowerMap) → least_power r < n → least_power r < m → steps n us r ≡ steps m us r
+steps-enough zero m us r h k = absurd (omega (arith, h))
+steps-enough (suc n) zero us r h k = absurd (omega (arith, k))
+steps-enough (suc n) (suc m) us r h k = step_at-alike (steps n) (steps m) us r (pivot r) refl (λ vs v l. steps-enough n m vs v (omega (arith, l, h)) (omega (arith, l, k)))

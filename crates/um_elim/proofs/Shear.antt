@@ -15,7 +15,7 @@ use Rattle.um_units.proofs.Weights.{weigh_alike}
 use Rattle.um_units.proofs.Equality.{same_unit}
 use Rattle.um_units.proofs.Group.{weight-atom, weight-mul, weight-inv, weight-pow, mul-inv, mul-one, pow-zero}
 use Rattle.um_units.proofs.Replacement.{weight-replace}
-use Rattle.um_elim.specs.Turn.{substitute, multiply}
+use Rattle.um_elim.specs.ElimStep.{substitute, multiply}
 use Rattle.um_elim.proofs.Cases.{on_test}
 
 -- a sum of functionals, one of them a multiple

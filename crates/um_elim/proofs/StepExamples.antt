@@ -1,11 +1,11 @@
--- Turns of small units, by computation of the definitions.
+-- Steps of small units, by computation of the definitions.
 use Rattle.std.proofs.Common.{◌≡◌, true, false, [], ◌∷◌, map, ℤ, pos, negsuc, refl}
 use Rattle.um_units.specs.declared.Atom.{Atom}
 use Rattle.um_units.specs.declared.Atom.TheVariants.{Var}
 use Rattle.um_units.specs.declared.Term.{Term}
 use Rattle.um_units.specs.PowerMap.{PowerMap, product, atom}
-use Rattle.um_elim.specs.declared.turning.Turn.{Turn}
-use Rattle.um_elim.specs.Turn.{turn_of}
+use Rattle.um_elim.specs.declared.elim_step.ElimStep.{ElimStep}
+use Rattle.um_elim.specs.ElimStep.{step_of}
 use Rattle.um_elim.specs.EliminationSteps.{unit_after, units_after}
 
 abbrev power : Atom → ℤ → Term
@@ -18,8 +18,8 @@ abbrev b : ℤ → Term
 b k = power (Var 1) k
 
 -- a^2 / b^3: a has the least power, and a times b^2 is put for a, since -3 over 2 is -2, rounded down. That leaves a^2 b
-abbrev first : Turn
-first = turn_of (record { variable = 0; power = pos 2 }) (product (a (pos 2) ∷ b (negsuc 2) ∷ []))
+abbrev first : ElimStep
+first = step_of (record { variable = 0; power = pos 2 }) (product (a (pos 2) ∷ b (negsuc 2) ∷ []))
 
 first_by : (first.by).terms ≡ b (pos 2) ∷ []
 unfolding product
@@ -34,8 +34,8 @@ unfolding product
 first_makes = refl
 
 -- where the pivot's power is negative the unit is inverted first: 1 / a^2 b^3 becomes a^2 b^3, and b over 2 is 1
-abbrev inverted : Turn
-inverted = turn_of (record { variable = 0; power = negsuc 1 }) (product (a (negsuc 1) ∷ b (negsuc 2) ∷ []))
+abbrev inverted : ElimStep
+inverted = step_of (record { variable = 0; power = negsuc 1 }) (product (a (negsuc 1) ∷ b (negsuc 2) ∷ []))
 
 inverted_is : inverted.inverted ≡ true
 inverted_is = refl

@@ -14,12 +14,12 @@ use Rattle.um_tree.specs.Typing.{put}
 use Rattle.um_tree.specs.Scheme.{unit_variables, type_variables}
 use Rattle.um_elim.specs.declared.pivot.Pivot.{Pivot}
 use Rattle.um_elim.specs.Pivot.{pivot, least_power, has_other, has_base}
-use Rattle.um_elim.specs.Turn.{substitute, quotients, turn, inverted_if_negative}
-use Rattle.um_elim.specs.Elimination.{Elimination, Solved, NoSolution, Range, is_empty, ended, after_turn, turn_at, turns, eliminate}
+use Rattle.um_elim.specs.ElimStep.{substitute, quotients, step, inverted_if_negative}
+use Rattle.um_elim.specs.Elimination.{Elimination, Solved, NoSolution, Range, is_empty, ended, after_step, step_at, steps, eliminate}
 use Rattle.um_elim.specs.Solution.{own_variables, rigid_unit, rigid_units}
 use Rattle.um_elim.proofs.Cases.{on_test}
 use Rattle.um_elim.proofs.PivotLaws.{is_pivot}
-use Rattle.um_elim.proofs.TurnLaws.{less, less-zero, power_of-quotients}
+use Rattle.um_elim.proofs.StepLaws.{less, less-zero, power_of-quotients}
 use Rattle.um_elim.proofs.Slots.{length-own, length-rigid}
 use Rattle.um_elim.proofs.RenamedUnits.{held-member}
 use Rattle.um_elim.proofs.GrowingOrder.{All-front, All-back, All-member, All-from_below}
@@ -45,8 +45,8 @@ Stays n s = (k : ℕ) → k < n → VariablesBelow n (s k)
 substitute_stays : (n m : ℕ) (w : PowerMap) → VariablesBelow n w → Stays n (substitute m w)
 substitute_stays n m w below k h = on_test (m == k) (λ e. rw e below) (λ e. rw e (own_below n k h))
 
-turn_stays : (n m p : ℕ) (r : PowerMap) → m < n → VariablesBelow n r → Stays n (turn m p r)
-turn_stays n m p r h below =
+step_stays : (n m p : ℕ) (r : PowerMap) → m < n → VariablesBelow n r → Stays n (step m p r)
+step_stays n m p r h below =
     substitute_stays n m (mul (atom (Var m)) (quotients m p r)) (VariablesBelow-mul n (atom (Var m)) (quotients m p r) (own_below n m h) (quotients_below n m p r below))
 
 pub replaced_below : (n : ℕ) (s : ℕ → PowerMap) → Stays n s → (u : PowerMap) → VariablesBelow n u → VariablesBelow n (replace s u)
@@ -70,29 +70,29 @@ module _ (n : ℕ) (again : List PowerMap → PowerMap → Elimination) (rest : 
   ended_below m us r all =
       on_test (has_base r) (λ f. rw f tt) (λ f. rw f (all_replaced_below n (substitute m one) (substitute_stays n m one (one_below n)) us all))
 
-  after_turn_below : (m : ℕ) (us : List PowerMap) (r : PowerMap) → All (VariablesBelow n) us → VariablesBelow n r → SolvedBelow n (after_turn again m us r)
-  after_turn_below m us r all below =
+  after_step_below : (m : ℕ) (us : List PowerMap) (r : PowerMap) → All (VariablesBelow n) us → VariablesBelow n r → SolvedBelow n (after_step again m us r)
+  after_step_below m us r all below =
       on_test (fits r && list_all fits us)
       (λ f. rw f (on_test (has_other m r) (λ g. rw g (rest us r all below)) (λ g. rw g (ended_below m us r all))))
       (λ f. rw f tt)
 
-  turn_at_below : (us : List PowerMap) (r : PowerMap) (o : Option Pivot) → pivot r ≡ o → All (VariablesBelow n) us → VariablesBelow n r → SolvedBelow n (turn_at again us r o)
-  turn_at_below us r None e all below = on_test (is_empty r.terms) (λ f. rw f all) (λ f. rw f tt)
-  turn_at_below us r (Some t) e all below =
+  step_at_below : (us : List PowerMap) (r : PowerMap) (o : Option Pivot) → pivot r ≡ o → All (VariablesBelow n) us → VariablesBelow n r → SolvedBelow n (step_at again us r o)
+  step_at_below us r None e all below = on_test (is_empty r.terms) (λ f. rw f all) (λ f. rw f tt)
+  step_at_below us r (Some t) e all below =
       let found = is_pivot r t e in
       let q = inverted_if_negative t.power r in
       let low = inverted_below n t.power r below in
-      let stays = turn_stays n t.variable (nat_abs t.power) q (below t.variable (λ z. found.nonzero (sym found.is ∙ z))) low in
-      after_turn_below t.variable (map (replace (turn t.variable (nat_abs t.power) q)) us) (replace (turn t.variable (nat_abs t.power) q) q) (all_replaced_below n _ stays us all) (replaced_below n _ stays q low)
+      let stays = step_stays n t.variable (nat_abs t.power) q (below t.variable (λ z. found.nonzero (sym found.is ∙ z))) low in
+      after_step_below t.variable (map (replace (step t.variable (nat_abs t.power) q)) us) (replace (step t.variable (nat_abs t.power) q) q) (all_replaced_below n _ stays us all) (replaced_below n _ stays q low)
 
-turns_below : (n fuel : ℕ) (us : List PowerMap) (r : PowerMap) → All (VariablesBelow n) us → VariablesBelow n r → SolvedBelow n (turns fuel us r)
-turns_below n zero us r all below = tt
-turns_below n (suc f) us r all below = turn_at_below n (turns f) (turns_below n f) us r (pivot r) refl all below
+steps_below : (n fuel : ℕ) (us : List PowerMap) (r : PowerMap) → All (VariablesBelow n) us → VariablesBelow n r → SolvedBelow n (steps fuel us r)
+steps_below n zero us r all below = tt
+steps_below n (suc f) us r all below = step_at_below n (steps f) (steps_below n f) us r (pivot r) refl all below
 
 eliminate_below : (n : ℕ) (us : List PowerMap) (row : PowerMap) → VariablesBelow (length us) row → All (VariablesBelow n) us → SolvedBelow n (eliminate us row)
 eliminate_below n us row slots all =
     on_test (fits (replace (nth us) row))
-    (λ f. rw f (turns_below n (suc (least_power (replace (nth us) row))) us (replace (nth us) row) all (VariablesBelow-replace_nth n us row all slots)))
+    (λ f. rw f (steps_below n (suc (least_power (replace (nth us) row))) us (replace (nth us) row) all (VariablesBelow-replace_nth n us row all slots)))
     (λ f. rw f tt)
 
 pub solved_below : (us : List PowerMap) (row : PowerMap) (new : List PowerMap) → VariablesBelow (length us) row → eliminate us row ≡ Solved new → (n : ℕ) → All (VariablesBelow n) us → All (VariablesBelow n) new

@@ -9,7 +9,7 @@ use Rattle.um_units.specs.PowerMap.{PowerMap, one, replace, nth}
 use Rattle.um_units.specs.Range.{fits}
 use Rattle.um_elim.specs.declared.pivot.Pivot.{Pivot}
 use Rattle.um_elim.specs.Pivot.{pivot, least_power, has_other, has_base}
-use Rattle.um_elim.specs.Turn.{substitute, turn, inverted_if_negative}
+use Rattle.um_elim.specs.ElimStep.{substitute, step, inverted_if_negative}
 
 -- what a row makes of the units of the slots: new units, or the row has no solution, or a power is out of range
 pub data Elimination : Type 0 where
@@ -27,28 +27,28 @@ ended m us r = if has_base r then NoSolution else Solved (map (replace (substitu
 
 -- after a step at m: Range if a power of r or of a slot's unit is out of range, then `again` if a variable other than m
 -- occurs in r, otherwise the end
-abbrev pub after_turn : (List PowerMap → PowerMap → Elimination) → ℕ → List PowerMap → PowerMap → Elimination
-after_turn again m us r =
+abbrev pub after_step : (List PowerMap → PowerMap → Elimination) → ℕ → List PowerMap → PowerMap → Elimination
+after_step again m us r =
     if fits r && list_all fits us then (if has_other m r then again us r else ended m us r) else Range
 
 -- the step at a pivot of r, which is inverted first if the pivot's power is negative. Without a variable the row is
 -- solved if r is 1
-abbrev pub turn_at : (List PowerMap → PowerMap → Elimination) → List PowerMap → PowerMap → Option Pivot → Elimination
-turn_at again us r None = if is_empty r.terms then Solved us else NoSolution
-turn_at again us r (Some p) =
-    let s = turn p.variable (nat_abs p.power) (inverted_if_negative p.power r) in
-    after_turn again p.variable (map (replace s) us) (replace s (inverted_if_negative p.power r))
+abbrev pub step_at : (List PowerMap → PowerMap → Elimination) → List PowerMap → PowerMap → Option Pivot → Elimination
+step_at again us r None = if is_empty r.terms then Solved us else NoSolution
+step_at again us r (Some p) =
+    let s = step p.variable (nat_abs p.power) (inverted_if_negative p.power r) in
+    after_step again p.variable (map (replace s) us) (replace s (inverted_if_negative p.power r))
 
 -- at most n steps. The least power falls from step to step, so n is enough if it is above the least power
-abbrev pub turns : ℕ → List PowerMap → PowerMap → Elimination
-turns zero us r = NoSolution
-turns (suc n) us r = turn_at (turns n) us r (pivot r)
+abbrev pub steps : ℕ → List PowerMap → PowerMap → Elimination
+steps zero us r = NoSolution
+steps (suc n) us r = step_at (steps n) us r (pivot r)
 
 -- the row with the slots' units put for its variables, and then the steps
 abbrev pub eliminate : List PowerMap → PowerMap → Elimination
 eliminate us row =
     let r = replace (nth us) row in
-    if fits r then turns (suc (least_power r)) us r else Range
+    if fits r then steps (suc (least_power r)) us r else Range
 
 -- what comes after a row that is solved
 abbrev pub on_solved : Elimination → (List PowerMap → Elimination) → Elimination

@@ -1,6 +1,6 @@
 -- The definitions, in the order in which they are to be read.
 pub mod Pivot
-pub mod Turn
+pub mod ElimStep
 pub mod Elimination
 pub mod Instances
 pub mod Solution

@@ -13,6 +13,7 @@
 #![tactic(auto)]
 
 mod application;
+mod elim_step;
 mod in_order;
 mod index;
 pub mod laws;
@@ -20,12 +21,11 @@ mod numbering;
 mod pivot;
 mod replacement;
 mod solver;
+mod step;
 mod stop;
-mod turn;
-mod turning;
 
 pub use application::put_in_type;
+pub use elim_step::{ElimStep, next_step, unit_after_step};
 pub use numbering::{Numbered, renumber};
 pub use solver::Solver;
 pub use stop::ElimStop;
-pub use turning::{Turn, next_turn, turned};

@@ -111,7 +111,8 @@ fn renamed_term(order: &mut Order, term: Term) -> Result<Term, AllocError>
 
 fn renamed_terms(alloc: Global, order: &mut Order, terms: &[Term]) -> Result<Vec<Term>, AllocError>
     requires { All (λ k. k < 4294967295) (flat_map (λ t. atom_variables t.atom) terms.now) }
-    ensures order { OnOk result (order.new ≡ with_variables order.old (flat_map (λ t. atom_variables t.atom) terms.now)) }
+    ensures order { OnOk result (order.new ≡ with_variables order.old
+        (flat_map (λ t. atom_variables t.atom) terms.now)) }
     ensures renamed { IfOk result (λ v. v.items ≡ map (placed_term order.new) terms.now) }
 {
     let mut out = Vec::new(alloc);

@@ -7,11 +7,11 @@ ghost use Rattle.um_units.specs.declared.UnitStop.TheVariants.{NoMemory};
 ghost use Rattle.um_units.specs.PowerMap.{PowerMap, atom, inv, mul, one, power_of, replace};
 ghost use Rattle.um_units.specs.Range.{fits, RangeUnless};
 ghost use Rattle.um_units.specs.Variables.{VariablesBelow};
-ghost use Rattle.um_elim.specs.Turn.{multiply, substitute};
+ghost use Rattle.um_elim.specs.ElimStep.{multiply, substitute};
 ghost use Rattle.um_elim.specs.Index.{holders, IsIndex};
 
+use crate::elim_step::multiplied;
 use crate::index::{SlotList, follow_terms};
-use crate::turning::multiplied;
 use std::alloc::Global;
 use um_units::{Atom, Unit, UnitStop};
 

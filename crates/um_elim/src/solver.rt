@@ -16,7 +16,7 @@ ghost use Rattle.um_elim.specs.Steps.{StopsAs};
 use crate::ElimStop;
 use crate::application::put_in_type;
 use crate::index::SlotList;
-use crate::turn::{Step, take_turn};
+use crate::step::{AfterStep, take_step};
 use std::alloc::{AllocError, Global};
 use std::marker::Model;
 use um_tree::Ty;
@@ -182,9 +182,9 @@ fn eliminate_row(
 {
     let mut r = row.replace(alloc, units)?;
     loop {
-        match take_turn(alloc, units, index, &r)? {
-            Step::Again(remainder) => r = remainder,
-            Step::Ended => return Ok(()),
+        match take_step(alloc, units, index, &r)? {
+            AfterStep::Again(remainder) => r = remainder,
+            AfterStep::Ended => return Ok(()),
         }
     }
 }

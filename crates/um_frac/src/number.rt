@@ -190,7 +190,8 @@ impl Frac {
     /// Whether the number is less than the other.
     pub fn less(self, other: Frac) -> bool
         ensures value { result ≡ is_less self other }
-        ensures order { IsTrue result ↔ ((numerator self *ℤ denominator other) <ℤ (numerator other *ℤ denominator self)) }
+        ensures order { IsTrue result
+            ↔ ((numerator self *ℤ denominator other) <ℤ (numerator other *ℤ denominator self)) }
     {
         (self.num as i128) * (other.den as i128) < (other.num as i128) * (self.den as i128)
     }

@@ -16,8 +16,8 @@ use um_units::NoMemory;
 /// The code of the program: its functions in order, each the code of its body and then `ret`. Addresses count over the
 /// whole program from 0.
 ///
-/// `NoMemory` is its one error. The instructions are this project's own; that a tree is compiled part by part is McCarthy
-/// and Painter, Correctness of a compiler for arithmetic expressions, 1967.
+/// `NoMemory` is its one error. The instructions are this project's own; that a tree is compiled part by part is
+/// McCarthy and Painter, Correctness of a compiler for arithmetic expressions, 1967.
 pub fn generate(alloc: Global, shaped: &Shaped) -> Result<Code, NoMemory>
     ensures { IfOk result (λ code. code ≡ program_code (program_tree shaped.now).functions) }
 {

@@ -1,8 +1,8 @@
 mod Limits
 mod Times
 mod Loops
-mod Turning
-mod TurnEnds
+mod AfterSteps
+mod StepEnds
 mod Parts
 pub mod WayBack
 mod RowStops

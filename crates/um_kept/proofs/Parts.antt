@@ -20,7 +20,7 @@ use Rattle.um_units.proofs.Group.{power_of-one, power_of-mul, power_of-pow, pow-
 use Rattle.um_units.proofs.Replacement.{weight_held}
 use Rattle.um_units.proofs.Variables.{variables_below-from_VariablesBelow}
 use Rattle.um_elim.specs.Pivot.{is_base}
-use Rattle.um_elim.specs.Turn.{signed}
+use Rattle.um_elim.specs.ElimStep.{signed}
 use Rattle.um_check.specs.Existence.{at_slot, total}
 use Rattle.um_check.proofs.Extensions.{weight-extension}
 use Rattle.um_kept.specs.Steps.{sign_of, variable_count, parts_product}

@@ -19,8 +19,8 @@ use Rattle.um_units.proofs.Weights.{weigh_alike}
 use Rattle.um_units.proofs.Group.{power_of-one, power_of-other_atom, power_of-mul, power_of-pow, mul-inv, one-pow}
 use Rattle.um_units.proofs.Replacement.{nth-map, replace-base, replace-one, extension-atom}
 use Rattle.um_units.proofs.Variables.{VariablesBelow-replace_nth}
-use Rattle.um_elim.specs.declared.turning.Turn.{Turn}
-use Rattle.um_elim.specs.Turn.{substitute, multiply, signed}
+use Rattle.um_elim.specs.declared.elim_step.ElimStep.{ElimStep}
+use Rattle.um_elim.specs.ElimStep.{substitute, multiply, signed}
 use Rattle.um_elim.specs.Solution.{rigid_unit, rigid_units}
 use Rattle.um_elim.proofs.Cases.{on_test}
 use Rattle.um_elim.proofs.Slots.{length-rigid}
@@ -30,9 +30,9 @@ use Rattle.um_elim.specs.EliminationSteps.{units_after, AreStepsOf}
 use Rattle.um_check.specs.Existence.{signed_by, at_slot, total, parts_after, IsInverse}
 use Rattle.um_check.proofs.Extensions.{weight-extension}
 use Rattle.um_check.proofs.InverseSteps.{length-units_after, inverse_after-base, kept_after, kept_row}
-use Rattle.um_kept.specs.Making.{Kept, row_unit, row_total, turned, ended, LeavePower, IsRowMade, IsReached, first, first_back}
+use Rattle.um_kept.specs.Kept.{Kept, row_unit, row_total, kept_after_steps, ended, LeavePower, IsRowMade, IsReached, first, first_back}
 use Rattle.um_kept.specs.Answers.{HoldsNoParameter}
-use Rattle.um_kept.proofs.Turning.{turns_are_shears, all_replaced, all_turned_below}
+use Rattle.um_kept.proofs.AfterSteps.{steps_are_shears, all_replaced, all_after_step_below}
 use Rattle.um_kept.proofs.WayBack.{parameter_range, positive_times, ends_stay}
 
 pub record ReachedState (bases parameters slots : ℕ) (rows : List PowerMap) (k : ℕ) (state : Kept) : Type 0 where
@@ -67,7 +67,7 @@ absent-mul u v x e f = power_of-mul u v x ∙ ap (λ z. z +ℤ power_of v x) e �
 absent-pow : (u : PowerMap) (n : ℤ) (x : Atom) → power_of u x ≡ pos 0 → power_of (pow u n) x ≡ pos 0
 absent-pow u n x e = power_of-pow u n x ∙ ap (λ z. n *ℤ z) e ∙ *ℤ-zero n
 
-absent-signed_by : (ts : List Turn) (u : PowerMap) (x : Atom) → power_of u x ≡ pos 0 → power_of (signed_by ts u) x ≡ pos 0
+absent-signed_by : (ts : List ElimStep) (u : PowerMap) (x : Atom) → power_of u x ≡ pos 0 → power_of (signed_by ts u) x ≡ pos 0
 absent-signed_by [] u x e = e
 absent-signed_by (t ∷ ts) u x e = absent-signed_by ts (signed t.inverted u) x (at t.inverted)
   where
@@ -95,7 +95,7 @@ further k (Var j) h = omega (arith, h)
 abbrev IsOfRows : ℕ → (ℕ → PowerMap) → Type 0
 IsOfRows k parts = (j : ℕ) (x : Atom) → IsBehind k x → power_of (parts j) x ≡ pos 0
 
-pub absent-total : (rows : List PowerMap) (kept : Kept) (k : ℕ) (ts : List Turn) → IsOfRows k kept.parts → (x : Atom) → IsBehind (suc k) x → power_of (row_total rows kept k ts) x ≡ pos 0
+pub absent-total : (rows : List PowerMap) (kept : Kept) (k : ℕ) (ts : List ElimStep) → IsOfRows k kept.parts → (x : Atom) → IsBehind (suc k) x → power_of (row_total rows kept k ts) x ≡ pos 0
 absent-total rows kept k ts none x h =
     absent-signed_by ts (total kept.parts (nth rows k) k kept.divisor) x
     (absent-mul (extension (at_slot kept.parts) (nth rows k)) (pow (atom (Var k)) kept.divisor) x (absent-extension (at_slot kept.parts) (nth rows k) x at) (absent-pow (atom (Var k)) kept.divisor x (other_atom k x h)))
@@ -112,7 +112,7 @@ of_rows : (k : ℕ) (parts : ℕ → PowerMap) → ((j : ℕ) → VariablesBelow
 of_rows k parts below closed j (Base n) h = closed j n
 of_rows k parts below closed j (Var i) h = elim (zero_cases (power_of (parts j) (Var i))) [ inl e ↦ e | inr held ↦ absurd (let l = below j i held in omega (arith, l, h)) ]
 
-pub total_of_rows : (bases parameters slots : ℕ) (rows : List PowerMap) (k : ℕ) (kept : Kept) (ts : List Turn) → ReachedState bases parameters slots rows k kept → VariablesBelow (suc k) (row_total rows kept k ts) × ((n : ℕ) → power_of (row_total rows kept k ts) (Base n) ≡ pos 0)
+pub total_of_rows : (bases parameters slots : ℕ) (rows : List PowerMap) (k : ℕ) (kept : Kept) (ts : List ElimStep) → ReachedState bases parameters slots rows k kept → VariablesBelow (suc k) (row_total rows kept k ts) × ((n : ℕ) → power_of (row_total rows kept k ts) (Base n) ≡ pos 0)
 total_of_rows bases parameters slots rows k kept ts s =
     let none = of_rows k kept.parts s.parts_below s.parts_closed in
     (below_rows (suc k) (row_total rows kept k ts) (absent-total rows kept k ts none), (λ n. absent-total rows kept k ts none (Base n) tt))
@@ -156,7 +156,7 @@ module _ (bases parameters slots : ℕ) where
 rigid_stays : (s : ℕ → PowerMap) (us : List PowerMap) (i b : ℕ) → i < length us → nth us i ≡ atom (Base b) → nth (map (replace s) us) i ≡ atom (Base b)
 rigid_stays s us i b l e = nth-map (replace s) us i l ∙ ap (replace s) e ∙ replace-base s b
 
-rigid_after : (ts : List Turn) (us : List PowerMap) (i b : ℕ) → i < length us → nth us i ≡ atom (Base b) → nth (units_after ts us) i ≡ atom (Base b)
+rigid_after : (ts : List ElimStep) (us : List PowerMap) (i b : ℕ) → i < length us → nth us i ≡ atom (Base b) → nth (units_after ts us) i ≡ atom (Base b)
 rigid_after [] us i b l e = e
 rigid_after (t ∷ ts) us i b l e =
     rigid_after ts (map (replace (multiply t.variable t.by)) us) i b (subst (λ n. i < n) (sym (length-map us (replace (multiply t.variable t.by)))) l) (rigid_stays (multiply t.variable t.by) us i b l e)
@@ -181,12 +181,12 @@ module _ (bases parameters slots : ℕ) (rows : List PowerMap) (few : parameters
     in_solution : (i : ℕ) → i < parameters → i < length kept.solution
     in_solution i l = let n = s.count in omega (arith, n, l, few)
 
-    module _ (ts : List Turn) (are : AreStepsOf (row_unit rows kept k) ts) where
-      turned_state : ReachedState bases parameters slots rows (suc k) (turned rows kept k ts)
-      turned_state = record {
-        kept = kept_after rows kept.solution kept.back kept.divisor kept.parts ts (turns_are_shears ts (row_unit rows kept k) are) s.kept;
+    module _ (ts : List ElimStep) (are : AreStepsOf (row_unit rows kept k) ts) where
+      after_step_state : ReachedState bases parameters slots rows (suc k) (kept_after_steps rows kept k ts)
+      after_step_state = record {
+        kept = kept_after rows kept.solution kept.back kept.divisor kept.parts ts (steps_are_shears ts (row_unit rows kept k) are) s.kept;
         count = length-units_after ts kept.solution ∙ s.count;
-        below = all_turned_below slots ts (row_unit rows kept k) kept.solution unit_low are s.below;
+        below = all_after_step_below slots ts (row_unit rows kept k) kept.solution unit_low are s.below;
         rigid = λ i l. rigid_after ts kept.solution i (bases + i) (in_solution i l) (s.rigid i l);
         base = λ n. inverse_after-base ts kept.back n ∙ s.base n;
         positive = s.positive;
@@ -203,11 +203,11 @@ module _ (bases parameters slots : ℕ) (rows : List PowerMap) (few : parameters
 
         ended_state : ReachedState bases parameters slots rows (suc k) (ended rows kept k ts m p)
         ended_state = record {
-          kept = kept_row rows kept.solution kept.back kept.divisor kept.parts k m p ts s.kept row_within row_bases (turns_are_shears ts (row_unit rows kept k) are) leave.1;
-          count = length-map (units_after ts kept.solution) (replace (substitute m one)) ∙ turned_state.count;
-          below = all_replaced slots (substitute m one) (ends_stay slots m) (units_after ts kept.solution) turned_state.below;
-          rigid = λ i l. rigid_stays (substitute m one) (units_after ts kept.solution) i (bases + i) (let n = turned_state.count in omega (arith, n, l, few)) (turned_state.rigid i l);
-          base = turned_state.base;
+          kept = kept_row rows kept.solution kept.back kept.divisor kept.parts k m p ts s.kept row_within row_bases (steps_are_shears ts (row_unit rows kept k) are) leave.1;
+          count = length-map (units_after ts kept.solution) (replace (substitute m one)) ∙ after_step_state.count;
+          below = all_replaced slots (substitute m one) (ends_stay slots m) (units_after ts kept.solution) after_step_state.below;
+          rigid = λ i l. rigid_stays (substitute m one) (units_after ts kept.solution) i (bases + i) (let n = after_step_state.count in omega (arith, n, l, few)) (after_step_state.rigid i l);
+          base = after_step_state.base;
           positive = positive_times kept.divisor p s.positive leave.0;
           parts_below = λ j. below_rows (suc k) (parts_after m p (row_total rows kept k ts) (units_after ts kept.solution) kept.parts j) (new_rows j);
           parts_closed = λ j n. new_rows j (Base n) tt;
@@ -216,7 +216,7 @@ module _ (bases parameters slots : ℕ) (rows : List PowerMap) (few : parameters
     row_state : (next : Kept) → IsRowMade rows kept k next → ReachedState bases parameters slots rows (suc k) next
     row_state next made =
         elim made.2 [
-          | inl h ↦ subst (ReachedState bases parameters slots rows (suc k)) (sym h.1) (turned_state made.0 made.1)
+          | inl h ↦ subst (ReachedState bases parameters slots rows (suc k)) (sym h.1) (after_step_state made.0 made.1)
           | inr h ↦ subst (ReachedState bases parameters slots rows (suc k)) (sym h.3) (ended_state made.0 made.1 h.0 h.1 h.2)
         ]
 

@@ -8,10 +8,10 @@ use Rattle.um_units.specs.declared.Atom.TheVariants.{Base, Var}
 use Rattle.um_units.specs.PowerMap.{PowerMap, power_of, atom, pow, replace, nth, extension}
 use Rattle.um_units.specs.Variables.{VariablesBelow}
 use Rattle.um_units.proofs.Replacement.{replace-base, replace-variable}
-use Rattle.um_elim.specs.declared.turning.Turn.{Turn}
+use Rattle.um_elim.specs.declared.elim_step.ElimStep.{ElimStep}
 use Rattle.um_elim.specs.Solution.{rigid_unit}
 use Rattle.um_elim.proofs.Cases.{on_test}
-use Rattle.um_elim.proofs.TurnLaws.{positive_size}
+use Rattle.um_elim.proofs.StepLaws.{positive_size}
 use Rattle.um_rows.specs.Generalised.{is_parameter}
 use Rattle.um_elim.specs.EliminationSteps.{unit_after, AreStepsOf}
 use Rattle.um_check.specs.Refutation.{IsApart}
@@ -20,11 +20,11 @@ use Rattle.um_check.proofs.InverseSteps.{inverse_after-base}
 use Rattle.um_check.proofs.RefutedSteps.{rows_are}
 use Rattle.um_check.proofs.RigidRefuted.{rigid_is_apart, rigid_closed_is_apart}
 use Rattle.um_kept.specs.declared.row.Refused.{Refused}
-use Rattle.um_kept.specs.Making.{Kept, row_unit, row_total, IsReached, first, first_back}
+use Rattle.um_kept.specs.Kept.{Kept, row_unit, row_total, IsReached, first, first_back}
 use Rattle.um_kept.specs.Formed.{IsModulus}
 use Rattle.um_kept.specs.Answers.{IsRefusedAs}
 use Rattle.um_kept.specs.Answers.{HoldsNoParameter}
-use Rattle.um_kept.proofs.Turning.{turns_are_shears}
+use Rattle.um_kept.proofs.AfterSteps.{steps_are_shears}
 use Rattle.um_kept.proofs.WayBack.{parameter_range}
 use Rattle.um_kept.proofs.Reached.{ReachedState, reached_state, row_within, row_bases, total_of_rows}
 
@@ -66,7 +66,7 @@ as_positive (pos n) h = (refl, omega (arith, ints, h))
 as_positive (negsuc n) h = absurd (omega (arith, ints, h))
 
 module _ (bases parameters slots : ℕ) (rows : List PowerMap) (few : parameters ≤ slots) (low : All (VariablesBelow slots) rows) (none : All (HoldsNoParameter bases parameters) rows)
-    (k : ℕ) (kept : Kept) (inside : k < length rows) (s : ReachedState bases parameters slots rows k kept) (ts : List Turn) (are : AreStepsOf (row_unit rows kept k) ts) where
+    (k : ℕ) (kept : Kept) (inside : k < length rows) (s : ReachedState bases parameters slots rows k kept) (ts : List ElimStep) (are : AreStepsOf (row_unit rows kept k) ts) where
   divisor : kept.divisor ≡ pos (nat_abs kept.divisor)
   divisor = (as_positive kept.divisor s.positive).0
 
@@ -79,7 +79,7 @@ module _ (bases parameters slots : ℕ) (rows : List PowerMap) (few : parameters
   total_is : replace (nth rows) (row_total rows kept k ts) ≡ pow (extension (inverse_after ts kept.back) (unit_after ts (row_unit rows kept k))) (pos (nat_abs kept.divisor))
   total_is =
       rows_are rows kept.solution kept.back kept.divisor kept.parts k ts s.kept (row_within bases parameters slots rows few low none k kept inside s) (row_bases bases parameters slots rows few low none k kept inside s)
-      (turns_are_shears ts (row_unit rows kept k) are)
+      (steps_are_shears ts (row_unit rows kept k) are)
       ∙ ap (pow (extension (inverse_after ts kept.back) (unit_after ts (row_unit rows kept k)))) divisor
 
   modulus_apart : (z : ℤ) → IsModulus rows kept k ts z → (pos 2 ≤ℤ z) × IsApart z (replace (rigid_unit bases parameters) (replace (nth rows) (row_total rows kept k ts)))
@@ -104,8 +104,8 @@ pub refused_apart : (bases parameters slots : ℕ) (rows : List PowerMap) (row :
     row < length rows → IsReached rows (first bases parameters slots) row kept → IsRefusedAs rows kept row refused → RefutedBy bases parameters rows row refused
 refused_apart bases parameters slots rows row kept refused few low none inside h by =
     let s = reached_state bases parameters slots rows few low none row kept (omega (arith, inside)) h in
-    let total = total_of_rows bases parameters slots rows row kept by.turns s in
-    let found = modulus_apart bases parameters slots rows few low none row kept inside s by.turns by.are refused.modulus by.modulus in
+    let total = total_of_rows bases parameters slots rows row kept by.steps s in
+    let found = modulus_apart bases parameters slots rows few low none row kept inside s by.steps by.are refused.modulus by.modulus in
     record {
       proper = found.0;
       below = subst (VariablesBelow (suc row)) (sym by.total) total.0;

@@ -1,5 +1,5 @@
 -- What is kept is what the elimination of the rows gives, and a row that is refused it refuses too, unless a power passes the
--- range before: the turns of a unit are determined by it, and where they end further turns change nothing.
+-- range before: the steps of a unit are determined by it, and where they end further steps change nothing.
 use Rattle.std.proofs.Common.{◌≡◌, ◌≢◌, ◌⊎◌, inl, inr, ℕ, zero, suc, ◌+◌, ◌<◌, ◌≤◌, false, Some, List, [], ◌∷◌, map, length, drop, get_or, ℤ, pos, neg_ℤ, nat_abs, ◌+ℤ◌, ◌*ℤ◌, refl, sym, ap, ◌∙◌, subst, arith}
 use Rattle.std.specs.Prelude.{◌==◌, All}
 use Rattle.std.specs.Int.{int_div_euclid}
@@ -17,21 +17,21 @@ use Rattle.um_units.specs.Variables.{VariablesBelow}
 use Rattle.um_units.proofs.Equality.{same_unit}
 use Rattle.um_units.proofs.Group.{power_of-one, power_of-atom, power_of-other_atom, power_of-pow, mul-one, one-pow}
 use Rattle.um_elim.specs.declared.pivot.Pivot.{Pivot}
-use Rattle.um_elim.specs.declared.turning.Turn.{Turn}
-use Rattle.um_elim.specs.Turn.{substitute, multiply, quotients, inverted_if_negative, signed, is_negative, turn_of, IsTurnOf}
+use Rattle.um_elim.specs.declared.elim_step.ElimStep.{ElimStep}
+use Rattle.um_elim.specs.ElimStep.{substitute, multiply, quotients, inverted_if_negative, signed, is_negative, step_of, IsStepOf}
 use Rattle.um_elim.specs.Elimination.{Elimination, Solved, NoSolution, Range, eliminate}
 use Rattle.um_elim.specs.Solution.{rigid_units}
 use Rattle.um_elim.proofs.Cases.{on_test}
 use Rattle.um_elim.proofs.PivotLaws.{is_pivot}
 use Rattle.um_elim.proofs.Shear.{power_of-multiply, replace-multiply}
-use Rattle.um_elim.proofs.TurnLaws.{power_of-quotients_pivot, less, power_of-quotients}
+use Rattle.um_elim.proofs.StepLaws.{power_of-quotients_pivot, less, power_of-quotients}
 use Rattle.um_rows.specs.declared.row.Row.{Row}
 use Rattle.um_rows.specs.Steps.{units_of}
 use Rattle.um_rows.specs.FirstUnsolvable.{Solving, solved, unsolved, out_of_range, after_row, solve}
 use Rattle.um_elim.specs.EliminationSteps.{unit_after, units_after, AreStepsOf, IsSolvedBySteps, IsClosedLeft, IsStuck}
 use Rattle.um_elim.proofs.FollowedSteps.{eliminate_treated, eliminate_refused}
 use Rattle.um_kept.specs.declared.row.Refused.{Refused}
-use Rattle.um_kept.specs.Making.{Kept, row_unit, IsRowMade, IsReached, first}
+use Rattle.um_kept.specs.Kept.{Kept, row_unit, IsRowMade, IsReached, first}
 use Rattle.um_kept.specs.Answers.{IsRefusedAs}
 
 -- ---- a unit that is left: 1, or a variable to a positive power
@@ -54,12 +54,12 @@ left_no_base : (r : PowerMap) → IsLeft r → (n : ℕ) → power_of r (Base n)
 left_no_base r (inl e) n = ap (λ u. power_of u (Base n)) e ∙ power_of-one (Base n)
 left_no_base r (inr h) n = ap (λ u. power_of u (Base n)) h.3 ∙ power_other h.0 h.1 (Base n) refl
 
--- ---- no variable, no turn
-no_turn : (r : PowerMap) (t : Turn) → ((k : ℕ) → power_of r (Var k) ≡ pos 0) → IsTurnOf r t → ⊥
-no_turn r t closed is = let found = is_pivot r is.0 is.1 in found.nonzero (sym found.is ∙ closed (is.0).variable)
+-- ---- no variable, no step
+no_step : (r : PowerMap) (t : ElimStep) → ((k : ℕ) → power_of r (Var k) ≡ pos 0) → IsStepOf r t → ⊥
+no_step r t closed is = let found = is_pivot r is.0 is.1 in found.nonzero (sym found.is ∙ closed (is.0).variable)
 
--- ---- the turn of a unit that holds one variable, to a positive power
-module _ (r : PowerMap) (m p : ℕ) (positive : 0 < p) (at_m : power_of r (Var m) ≡ pos p) (alone : (k : ℕ) → (m == k) ≡ false → power_of r (Var k) ≡ pos 0) (t : Turn) (is : IsTurnOf r t) where
+-- ---- the step of a unit that holds one variable, to a positive power
+module _ (r : PowerMap) (m p : ℕ) (positive : 0 < p) (at_m : power_of r (Var m) ≡ pos p) (alone : (k : ℕ) → (m == k) ≡ false → power_of r (Var k) ≡ pos 0) (t : ElimStep) (is : IsStepOf r t) where
   pivot_is : (is.0).variable ≡ m
   pivot_is =
       let q = is.0 in
@@ -71,16 +71,16 @@ module _ (r : PowerMap) (m p : ℕ) (positive : 0 < p) (at_m : power_of r (Var m
   pivot_power : (is.0).power ≡ pos p
   pivot_power = let found = is_pivot r is.0 is.1 in sym found.is ∙ ap (λ k. power_of r (Var k)) pivot_is ∙ at_m
 
-  turn_is : t ≡ record { variable = m; inverted = false; by = quotients m p r }
-  turn_is =
+  step_is : t ≡ record { variable = m; inverted = false; by = quotients m p r }
+  step_is =
       is.2 ∙ ap (λ z. record { variable = (is.0).variable; inverted = is_negative z; by = quotients (is.0).variable (nat_abs z) (inverted_if_negative z r) }) pivot_power
       ∙ ap (λ k. record { variable = k; inverted = false; by = quotients k p r }) pivot_is
 
   unit_is : replace (multiply t.variable t.by) (signed t.inverted r) ≡ replace (multiply m (quotients m p r)) r
-  unit_is = ap (λ (x : Turn). replace (multiply x.variable x.by) (signed x.inverted r)) turn_is
+  unit_is = ap (λ (x : ElimStep). replace (multiply x.variable x.by) (signed x.inverted r)) step_is
 
   units_are : (us : List PowerMap) → map (replace (multiply t.variable t.by)) us ≡ map (replace (multiply m (quotients m p r))) us
-  units_are us = ap (λ (x : Turn). map (replace (multiply x.variable x.by)) us) turn_is
+  units_are us = ap (λ (x : ElimStep). map (replace (multiply x.variable x.by)) us) step_is
 
   pub power_after : (x : Atom) → power_of (replace (multiply t.variable t.by) (signed t.inverted r)) x ≡ power_of r x +ℤ pos p *ℤ power_of (quotients m p r) x
   power_after x = ap (λ u. power_of u x) unit_is ∙ power_of-multiply m (quotients m p r) r x ∙ ap (λ z. power_of r x +ℤ z *ℤ power_of (quotients m p r) x) at_m
@@ -98,7 +98,7 @@ stays a b p e = ap (λ z. a +ℤ p *ℤ z) e ∙ ap (λ z. a +ℤ z) (*ℤ-zero 
     nothing : (a : ℤ) → a +ℤ pos 0 ≡ a
     nothing a = omega (arith, ints)
 
--- ---- the turns of a variable to a power alone change nothing
+-- ---- the steps of a variable to a power alone change nothing
 replace-multiply_one : (m : ℕ) (w u : PowerMap) → w ≡ one → replace (multiply m w) u ≡ u
 replace-multiply_one m w u e = replace-multiply m w u ∙ ap (λ v. mul u (pow v (power_of u (Var m)))) e ∙ ap (mul u) (one-pow (power_of u (Var m))) ∙ mul-one u
 
@@ -106,10 +106,10 @@ all_same : (f : PowerMap → PowerMap) → ((u : PowerMap) → f u ≡ u) → (u
 all_same f same [] = refl
 all_same f same (u ∷ us) = λ i. same u i ∷ all_same f same us i
 
-abbrev ChangesNothing : List Turn → PowerMap → Type 0
+abbrev ChangesNothing : List ElimStep → PowerMap → Type 0
 ChangesNothing ts r = (unit_after ts r ≡ r) × ((us : List PowerMap) → units_after ts us ≡ us)
 
-power_stays : (m p : ℕ) (ts : List Turn) (r : PowerMap) → 0 < p → r ≡ pow (atom (Var m)) (pos p) → AreStepsOf r ts → ChangesNothing ts r
+power_stays : (m p : ℕ) (ts : List ElimStep) (r : PowerMap) → 0 < p → r ≡ pow (atom (Var m)) (pos p) → AreStepsOf r ts → ChangesNothing ts r
 power_stays m p [] r h e are = (refl, (λ us. refl))
 power_stays m p (t ∷ ts) r h e are =
     let rest = power_stays m p ts (replace (multiply t.variable t.by) (signed t.inverted r)) h (same ∙ e) are.1 in (
@@ -138,32 +138,32 @@ power_stays m p (t ∷ ts) r h e are =
     same : replace (multiply t.variable t.by) (signed t.inverted r) ≡ r
     same = unit_is r m p h at_m alone t are.0 ∙ replace-multiply_one m (quotients m p r) r none
 
-left_stays : (ts : List Turn) (r : PowerMap) → IsLeft r → AreStepsOf r ts → ChangesNothing ts r
+left_stays : (ts : List ElimStep) (r : PowerMap) → IsLeft r → AreStepsOf r ts → ChangesNothing ts r
 left_stays [] r l are = (refl, (λ us. refl))
-left_stays (t ∷ ts) r (inl e) are = absurd (no_turn r t (λ k. ap (λ u. power_of u (Var k)) e ∙ power_of-one (Var k)) are.0)
+left_stays (t ∷ ts) r (inl e) are = absurd (no_step r t (λ k. ap (λ u. power_of u (Var k)) e ∙ power_of-one (Var k)) are.0)
 left_stays (t ∷ ts) r (inr h) are = power_stays h.0 h.1 (t ∷ ts) r h.2 h.3 are
 
--- ---- turns are determined
-same_turn : (r : PowerMap) (t s : Turn) → IsTurnOf r t → IsTurnOf r s → t ≡ s
-same_turn r t s a b = let q : a.0 ≡ b.0 = some (sym a.1 ∙ b.1) in a.2 ∙ ap (λ (p : Pivot). turn_of p r) q ∙ sym b.2
+-- ---- steps are determined
+same_step : (r : PowerMap) (t s : ElimStep) → IsStepOf r t → IsStepOf r s → t ≡ s
+same_step r t s a b = let q : a.0 ≡ b.0 = some (sym a.1 ∙ b.1) in a.2 ∙ ap (λ (p : Pivot). step_of p r) q ∙ sym b.2
   where
     some : {p q : Pivot} → Some p ≡ Some q → p ≡ q
     some e = cc e
 
 -- units after both ends
-pub same_units : (ts ss : List Turn) (r : PowerMap) (us : List PowerMap) → AreStepsOf r ts → AreStepsOf r ss → IsLeft (unit_after ts r) → IsLeft (unit_after ss r) →
+pub same_units : (ts ss : List ElimStep) (r : PowerMap) (us : List PowerMap) → AreStepsOf r ts → AreStepsOf r ss → IsLeft (unit_after ts r) → IsLeft (unit_after ss r) →
     (unit_after ts r ≡ unit_after ss r) × (units_after ts us ≡ units_after ss us)
 same_units [] ss r us a b l k = let w = left_stays ss r l b in (sym w.0, sym (w.1 us))
 same_units (t ∷ ts) [] r us a b l k = let w = left_stays (t ∷ ts) r k a in (w.0, w.1 us)
 same_units (t ∷ ts) (s ∷ ss) r us a b l k =
-    let e : s ≡ t = same_turn r s t b.0 a.0 in
-    let f = λ (x : Turn). replace (multiply x.variable x.by) (signed x.inverted r) in
-    let g = λ (x : Turn). map (replace (multiply x.variable x.by)) us in
+    let e : s ≡ t = same_step r s t b.0 a.0 in
+    let f = λ (x : ElimStep). replace (multiply x.variable x.by) (signed x.inverted r) in
+    let g = λ (x : ElimStep). map (replace (multiply x.variable x.by)) us in
     let rest = same_units ts ss (f t) (g t) a.1 (subst (λ x. AreStepsOf (f x) ss) e b.1) l (subst (λ x. IsLeft (unit_after ss (f x))) e k) in
     (rest.0 ∙ ap (λ x. unit_after ss (f x)) (sym e), rest.1 ∙ ap (λ x. units_after ss (g x)) (sym e))
 
 -- ---- the base unit that keeps a unit from becoming 1 stays
-stuck_stays : (m p n e : ℕ) (ts : List Turn) (r : PowerMap) → 0 < p → power_of r (Var m) ≡ pos p → ((k : ℕ) → (m == k) ≡ false → power_of r (Var k) ≡ pos 0) → e < p → power_of r (Base n) ≡ pos e → AreStepsOf r ts →
+stuck_stays : (m p n e : ℕ) (ts : List ElimStep) (r : PowerMap) → 0 < p → power_of r (Var m) ≡ pos p → ((k : ℕ) → (m == k) ≡ false → power_of r (Var k) ≡ pos 0) → e < p → power_of r (Base n) ≡ pos e → AreStepsOf r ts →
     power_of (unit_after ts r) (Base n) ≡ pos e
 stuck_stays m p n e [] r h at_m alone l base are = base
 stuck_stays m p n e (t ∷ ts) r h at_m alone l base are =
@@ -175,33 +175,33 @@ stuck_stays m p n e (t ∷ ts) r h at_m alone l base are =
     are.1
 
 -- what refuses a unit
-abbrev Refuses : List Turn → PowerMap → Type 0
+abbrev Refuses : List ElimStep → PowerMap → Type 0
 Refuses ts r = IsClosedLeft ts r ⊎ IsStuck ts r
 
 no_zero : (e : ℕ) → 0 < e → pos e ≡ pos 0 → ⊥
 no_zero e h q = omega (arith, ints, h, q)
 
-refused_base : (ts : List Turn) (r : PowerMap) → Refuses ts r → (n : ℕ) × (power_of (unit_after ts r) (Base n) ≢ pos 0)
+refused_base : (ts : List ElimStep) (r : PowerMap) → Refuses ts r → (n : ℕ) × (power_of (unit_after ts r) (Base n) ≢ pos 0)
 refused_base ts r (inl c) = (c.n, c.nonzero)
 refused_base ts r (inr s) = (s.n, λ z. no_zero s.e s.e_positive (sym s.base ∙ z))
 
-refused_behind : (t : Turn) (ts : List Turn) (r : PowerMap) → Refuses (t ∷ ts) r → Refuses ts (replace (multiply t.variable t.by) (signed t.inverted r))
+refused_behind : (t : ElimStep) (ts : List ElimStep) (r : PowerMap) → Refuses (t ∷ ts) r → Refuses ts (replace (multiply t.variable t.by) (signed t.inverted r))
 refused_behind t ts r (inl c) = inl (record { closed = c.closed; n = c.n; nonzero = c.nonzero })
 refused_behind t ts r (inr s) =
     inr (record { m = s.m; p = s.p; positive = s.positive; is = s.is; alone = s.alone; n = s.n; e = s.e; e_positive = s.e_positive; below = s.below; base = s.base })
 
 -- a unit isn't left as 1 or a power and refused too
-pub not_both : (ts ss : List Turn) (r : PowerMap) → AreStepsOf r ts → AreStepsOf r ss → IsLeft (unit_after ts r) → Refuses ss r → ⊥
+pub not_both : (ts ss : List ElimStep) (r : PowerMap) → AreStepsOf r ts → AreStepsOf r ss → IsLeft (unit_after ts r) → Refuses ss r → ⊥
 not_both [] ss r a b l refused =
     let w = left_stays ss r l b in
     let q = refused_base ss r refused in
     q.1 (ap (λ u. power_of u (Base q.0)) w.0 ∙ left_no_base r l q.0)
-not_both (t ∷ ts) [] r a b l (inl c) = no_turn r t c.closed a.0
+not_both (t ∷ ts) [] r a b l (inl c) = no_step r t c.closed a.0
 not_both (t ∷ ts) [] r a b l (inr s) =
     no_zero s.e s.e_positive (sym (stuck_stays s.m s.p s.n s.e (t ∷ ts) r s.positive s.is s.alone s.below s.base a) ∙ left_no_base (unit_after (t ∷ ts) r) l s.n)
 not_both (t ∷ ts) (s ∷ ss) r a b l refused =
-    let e : s ≡ t = same_turn r s t b.0 a.0 in
-    let f = λ (x : Turn). replace (multiply x.variable x.by) (signed x.inverted r) in
+    let e : s ≡ t = same_step r s t b.0 a.0 in
+    let f = λ (x : ElimStep). replace (multiply x.variable x.by) (signed x.inverted r) in
     not_both ts ss (f t) a.1 (subst (λ x. AreStepsOf (f x) ss) e b.1) l (subst (λ x. Refuses ss (f x)) e (refused_behind s ss r refused))
 
 -- ---- a row
@@ -227,12 +227,12 @@ module _ (rows : List PowerMap) (kept : Kept) (k : ℕ) where
   made_left : (next : Kept) → (made : IsRowMade rows kept k next) → IsLeft (unit_after made.0 r)
   made_left next made = elim made.2 [ inl h ↦ inl h.0 | inr h ↦ inr (h.0, h.1, (h.2).0, (h.2).1) ]
 
-  treated_left : (vs : List PowerMap) (t : IsSolvedBySteps us r vs) → IsLeft (unit_after t.turns r)
+  treated_left : (vs : List PowerMap) (t : IsSolvedBySteps us r vs) → IsLeft (unit_after t.steps r)
   treated_left vs t = elim t.ends [ inl h ↦ inl h.left | inr h ↦ inr (h.m, h.p, h.positive, h.left) ]
 
   same_solution : (next : Kept) (vs : List PowerMap) → IsRowMade rows kept k next → IsSolvedBySteps us r vs → vs ≡ next.solution
   same_solution next vs made t =
-      let w = same_units t.turns made.0 r us t.are made.1 (treated_left vs t) (made_left next made) in
+      let w = same_units t.steps made.0 r us t.are made.1 (treated_left vs t) (made_left next made) in
       elim t.ends [
         | inl a ↦ elim made.2 [
           | inl b ↦ a.units ∙ w.1 ∙ ap (λ (x : Kept). x.solution) (sym b.1)
@@ -251,14 +251,14 @@ module _ (rows : List PowerMap) (kept : Kept) (k : ℕ) where
     where
       at : (o : Elimination) → eliminate us (nth rows k) ≡ o → Eliminates us (nth rows k) (Solved next.solution)
       at (Solved vs) e = inl (e ∙ ap Solved (same_solution next vs made (eliminate_treated us (nth rows k) vs e)))
-      at NoSolution e = let refused = eliminate_refused us (nth rows k) e in absurd (not_both made.0 refused.turns r made.1 refused.are (made_left next made) refused.ends)
+      at NoSolution e = let refused = eliminate_refused us (nth rows k) e in absurd (not_both made.0 refused.steps r made.1 refused.are (made_left next made) refused.ends)
       at Range e = inr e
 
   pub refused_eliminates : (refused : Refused) → IsRefusedAs rows kept k refused → Eliminates us (nth rows k) NoSolution
   refused_eliminates refused by = at (eliminate us (nth rows k)) refl
     where
       at : (o : Elimination) → eliminate us (nth rows k) ≡ o → Eliminates us (nth rows k) NoSolution
-      at (Solved vs) e = let t = eliminate_treated us (nth rows k) vs e in absurd (not_both t.turns by.turns r t.are by.are (treated_left vs t) by.ends)
+      at (Solved vs) e = let t = eliminate_treated us (nth rows k) vs e in absurd (not_both t.steps by.steps r t.are by.are (treated_left vs t) by.ends)
       at NoSolution e = inl e
       at Range e = inr e
 

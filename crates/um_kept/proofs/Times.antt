@@ -1,10 +1,10 @@
--- A unit times another's power, as a turn and the end of a variable want it.
+-- A unit times another's power, as a step and the end of a variable want it.
 use Rattle.std.proofs.Common.{◌≡◌, ◌≤◌, ℕ, Bool, true, false, ℤ, pos, negsuc, neg_ℤ, nat_abs, ◌*ℤ◌, ◌-ℤ◌, to_z, of_z, w32, sym, ap, ◌∙◌, arith}
 use Rattle.std.proofs.lemmas.Int.{ints, to_z-of_z}
 use Rattle.um_units.specs.declared.Atom.TheVariants.{Var}
 use Rattle.um_units.specs.PowerMap.{PowerMap, power_of, one, atom, mul, inv, pow, replace}
 use Rattle.um_units.proofs.Group.{pow-one, pow-pow}
-use Rattle.um_elim.specs.Turn.{substitute, multiply, signed}
+use Rattle.um_elim.specs.ElimStep.{substitute, multiply, signed}
 use Rattle.um_elim.proofs.InRange.{kept32}
 use Rattle.um_elim.proofs.Shear.{replace-multiply, multiply_nothing, substitute-one}
 use Rattle.um_kept.specs.Steps.{sign_of}

@@ -1,4 +1,4 @@
--- What the code keeps against what is kept: before any row, after a turn and after the end of a variable.
+-- What the code keeps against what is kept: before any row, after a step and after the end of a variable.
 use Rattle.std.proofs.Common.{◌≡◌, ◌≢◌, ℕ, zero, suc, ◌+◌, ◌-◌, ◌*◌, ◌<◌, ◌≤◌, true, List, ◌++◌, map, length, get_or, set, replicate, ℤ, pos, negsuc, neg_ℤ, ◌*ℤ◌, refl, sym, ap, ◌∙◌, subst, arith}
 use Rattle.std.specs.Prelude.{◌==◌, IsTrue, All, nat_le, nat_lt, slice_index_or}
 use Rattle.std.specs.Int.Signed.{◌<ℤ◌}
@@ -18,22 +18,22 @@ use Rattle.um_units.proofs.Replacement.{weight-replace, weight_held}
 use Rattle.um_units.proofs.Variables.{VariablesBelow-closed, IsClosed-one}
 use Rattle.um_wide.specs.Room.{IsNarrow}
 use Rattle.um_wide.proofs.Rooms.{within-one}
-use Rattle.um_elim.specs.declared.turning.Turn.{Turn}
-use Rattle.um_elim.specs.Turn.{multiply, substitute}
+use Rattle.um_elim.specs.declared.elim_step.ElimStep.{ElimStep}
+use Rattle.um_elim.specs.ElimStep.{multiply, substitute}
 use Rattle.um_elim.specs.Solution.{own_variables, rigid_units}
 use Rattle.um_elim.proofs.Cases.{on_test}
-use Rattle.um_elim.proofs.IndexTurn.{multiply_stays}
+use Rattle.um_elim.proofs.IndexStep.{multiply_stays}
 use Rattle.um_elim.proofs.Slots.{length-own, length-rigid}
 use Rattle.um_elim.proofs.VariablesKept.{Stays, own_below, all_rigid_below}
 use Rattle.um_rows.specs.Generalised.{is_parameter, generalised_atom, generalised_unit}
 use Rattle.um_check.specs.Existence.{divided_inverse, parts_after}
 use Rattle.um_check.proofs.Extensions.{weight-extension}
-use Rattle.um_kept.specs.declared.kept.Making.{Making}
+use Rattle.um_kept.specs.declared.kept.PartialCertificate.{PartialCertificate}
 use Rattle.um_kept.specs.declared.kept.Head.{Head}
-use Rattle.um_kept.specs.Making.{Kept, first, first_back}
+use Rattle.um_kept.specs.Kept.{Kept, first, first_back}
 use Rattle.um_kept.specs.Answers.{Agrees, back_at}
-use Rattle.um_kept.specs.Steps.{ArePartsAfter, IsTurned, divided_at}
-use Rattle.um_kept.proofs.Turning.{all_replaced}
+use Rattle.um_kept.specs.Steps.{ArePartsAfter, IsAfterStep, divided_at}
+use Rattle.um_kept.proofs.AfterSteps.{all_replaced}
 
 -- ---- numbers
 pub parameter_range : (b p n : ℕ) → is_parameter b p 0 n ≡ true → (b ≤ n) × (n < b + p)
@@ -81,7 +81,7 @@ back_is h bs back u l is below =
     at x y held = ap (λ v. power_of v x) (is y (low y held) ∙ back_at_is h bs l y) ∙ sym (weight-atom (λ z. power_of (image (nth bs) z) x) (general y))
 
 -- ---- before any row
-module _ (h : Head) (m : Making) (few : h.parameters ≤ h.slots) (solution : m.solution.items ≡ rigid_units h.bases h.parameters h.slots) (bs : m.back.items ≡ own_variables h.slots ++ own_variables h.parameters)
+module _ (h : Head) (m : PartialCertificate) (few : h.parameters ≤ h.slots) (solution : m.solution.items ≡ rigid_units h.bases h.parameters h.slots) (bs : m.back.items ≡ own_variables h.slots ++ own_variables h.parameters)
     (divisor : m.divisor ≡ pos 1) (parts : m.parts.items ≡ replicate h.slots one) where
   own_at : (n k : ℕ) (d : PowerMap) → k < n → get_or (own_variables n) k d ≡ atom (Var k)
   own_at n k d l = get_or-map-range_with_len (λ i. atom (Var i)) 0 n k k d l (omega arith)
@@ -119,54 +119,54 @@ module _ (h : Head) (m : Making) (few : h.parameters ≤ h.slots) (solution : m.
     narrow = subst (All IsNarrow) (sym parts) (All-replicate IsNarrow h.slots one (within-one 9223372036854775807));
   }
 
--- ---- after a turn
-abbrev pub after_turn : Kept → Turn → Kept
-after_turn kept t = record {
+-- ---- after a step
+abbrev pub after_step : Kept → ElimStep → Kept
+after_step kept t = record {
   solution = map (replace (multiply t.variable t.by)) kept.solution;
   back = divided_inverse t.variable t.by kept.back;
   divisor = kept.divisor;
   parts = kept.parts;
 }
 
--- what the turn's variable goes back to
-pub divided_is : (h : Head) (m : Making) (kept : Kept) (t : Turn) → Agrees h m kept → t.variable < h.slots → VariablesBelow h.slots t.by →
+-- what the step's variable goes back to
+pub divided_is : (h : Head) (m : PartialCertificate) (kept : Kept) (t : ElimStep) → Agrees h m kept → t.variable < h.slots → VariablesBelow h.slots t.by →
     mul (kept.back (Var t.variable)) (inv (extension kept.back t.by)) ≡ divided_at h m.back.items t.variable t.by
 divided_is h m kept t a low below =
     ap (λ u. mul u (inv (extension kept.back t.by))) (a.back (Var t.variable) (lt-ltb t.variable h.slots low))
     ∙ ap (λ u. mul (nth m.back.items t.variable) (inv u)) (back_is h m.back.items kept.back t.by a.back_count a.back below)
 
-module _ (h : Head) (old new : Making) (kept : Kept) (t : Turn) (a : Agrees h old kept) (low : t.variable < h.slots) (below : VariablesBelow h.slots t.by) (turned : IsTurned h old new t.variable t.by) where
+module _ (h : Head) (old new : PartialCertificate) (kept : Kept) (t : ElimStep) (a : Agrees h old kept) (low : t.variable < h.slots) (below : VariablesBelow h.slots t.by) (kept_after_steps : IsAfterStep h old new t.variable t.by) where
   inside : t.variable < length old.back.items
   inside = let n = a.back_count in omega (arith, n, low)
 
-  turned_back_is : (y : Atom) → IsTrue (atom_below h.slots y) → divided_inverse t.variable t.by kept.back y ≡ back_at h new.back.items y
-  turned_back_is (Base n) l = a.back (Base n) refl ∙ on_test (is_parameter h.bases h.parameters h.slots n)
-      (λ e. rw e (sym (ap (λ bs. get_or bs (h.slots + (n - h.bases)) one) turned.back
+  after_step_back_is : (y : Atom) → IsTrue (atom_below h.slots y) → divided_inverse t.variable t.by kept.back y ≡ back_at h new.back.items y
+  after_step_back_is (Base n) l = a.back (Base n) refl ∙ on_test (is_parameter h.bases h.parameters h.slots n)
+      (λ e. rw e (sym (ap (λ bs. get_or bs (h.slots + (n - h.bases)) one) kept_after_steps.back
       ∙ get_or-set_other old.back.items t.variable (h.slots + (n - h.bases)) (divided_at h old.back.items t.variable t.by) one (λ q. omega (arith, low, q)))))
       (λ e. rw e refl)
-  turned_back_is (Var k) l =
+  after_step_back_is (Var k) l =
       on_test (t.variable == k)
       (λ e. let q : t.variable ≡ k = eqb-true t.variable k e in
       rw e (ap (λ i. mul (kept.back (Var i)) (inv (extension kept.back t.by))) (sym q) ∙ divided_is h old kept t a low below
-      ∙ sym (ap (λ bs. get_or bs k (atom (Var k))) turned.back
+      ∙ sym (ap (λ bs. get_or bs k (atom (Var k))) kept_after_steps.back
       ∙ ap (λ i. get_or (set old.back.items t.variable (divided_at h old.back.items t.variable t.by)) i (atom (Var k))) (sym q)
       ∙ get_or-set_same old.back.items t.variable (divided_at h old.back.items t.variable t.by) (atom (Var k)) inside)))
       (λ e. rw e (a.back (Var k) l
-      ∙ sym (ap (λ bs. get_or bs k (atom (Var k))) turned.back
+      ∙ sym (ap (λ bs. get_or bs k (atom (Var k))) kept_after_steps.back
       ∙ get_or-set_other old.back.items t.variable k (divided_at h old.back.items t.variable t.by) (atom (Var k)) (λ q. eqb-false t.variable k e (sym q)))))
 
-  pub agrees_turned : Agrees h new (after_turn kept t)
-  agrees_turned = record {
-    solution = turned.solution ∙ ap (map (replace (multiply t.variable t.by))) a.solution;
-    count = ap length turned.solution ∙ length-map old.solution.items (replace (multiply t.variable t.by)) ∙ a.count;
-    below = subst (All (VariablesBelow h.slots)) (sym turned.solution) (all_replaced h.slots (multiply t.variable t.by) (multiply_stays h.slots t.variable t.by below) old.solution.items a.below);
-    back_count = ap length turned.back ∙ length-set old.back.items t.variable (divided_at h old.back.items t.variable t.by) ∙ a.back_count;
-    back = turned_back_is;
-    divisor = turned.divisor ∙ a.divisor;
-    positive = subst (λ d. pos 0 <ℤ d) (sym turned.divisor) a.positive;
-    parts_count = ap (λ v. length v.items) turned.parts ∙ a.parts_count;
-    parts = λ j l. a.parts j l ∙ ap (λ v. slice_index_or v.items j one) (sym turned.parts);
-    narrow = subst (λ v. All IsNarrow v.items) (sym turned.parts) a.narrow;
+  pub agrees_after_step : Agrees h new (after_step kept t)
+  agrees_after_step = record {
+    solution = kept_after_steps.solution ∙ ap (map (replace (multiply t.variable t.by))) a.solution;
+    count = ap length kept_after_steps.solution ∙ length-map old.solution.items (replace (multiply t.variable t.by)) ∙ a.count;
+    below = subst (All (VariablesBelow h.slots)) (sym kept_after_steps.solution) (all_replaced h.slots (multiply t.variable t.by) (multiply_stays h.slots t.variable t.by below) old.solution.items a.below);
+    back_count = ap length kept_after_steps.back ∙ length-set old.back.items t.variable (divided_at h old.back.items t.variable t.by) ∙ a.back_count;
+    back = after_step_back_is;
+    divisor = kept_after_steps.divisor ∙ a.divisor;
+    positive = subst (λ d. pos 0 <ℤ d) (sym kept_after_steps.divisor) a.positive;
+    parts_count = ap (λ v. length v.items) kept_after_steps.parts ∙ a.parts_count;
+    parts = λ j l. a.parts j l ∙ ap (λ v. slice_index_or v.items j one) (sym kept_after_steps.parts);
+    narrow = subst (λ v. All IsNarrow v.items) (sym kept_after_steps.parts) a.narrow;
   }
 
 -- ---- after the end of a variable
@@ -181,7 +181,7 @@ after_end kept m p t = record {
 pub ends_stay : (n m : ℕ) → Stays n (substitute m one)
 ends_stay n m k l = on_test (m == k) (λ e. rw e (VariablesBelow-closed n one IsClosed-one)) (λ e. rw e (own_below n k l))
 
-module _ (h : Head) (old new : Making) (kept : Kept) (m p : ℕ) (t : PowerMap) (a : Agrees h old kept) (positive : 0 < p) (solution : new.solution.items ≡ map (replace (substitute m one)) old.solution.items) (back : new.back ≡ old.back)
+module _ (h : Head) (old new : PartialCertificate) (kept : Kept) (m p : ℕ) (t : PowerMap) (a : Agrees h old kept) (positive : 0 < p) (solution : new.solution.items ≡ map (replace (substitute m one)) old.solution.items) (back : new.back ≡ old.back)
     (divisor : new.divisor ≡ old.divisor *ℤ pos p) (parts : ArePartsAfter m p t old.solution.items old.parts.items new.parts.items) (narrow : All IsNarrow new.parts.items) where
   parts_are : (j : ℕ) → j < h.slots → parts_after m p t kept.solution kept.parts j ≡ slice_index_or new.parts.items j one
   parts_are j l =

@@ -9,19 +9,19 @@ use Rattle.um_units.specs.declared.Atom.TheVariants.{Base, Var}
 use Rattle.um_units.specs.PowerMap.{PowerMap, one, atom, power_of, nth}
 use Rattle.um_units.specs.Variables.{VariablesBelow, atom_below}
 use Rattle.um_wide.specs.Room.{IsNarrow}
-use Rattle.um_elim.specs.declared.turning.Turn.{Turn}
+use Rattle.um_elim.specs.declared.elim_step.ElimStep.{ElimStep}
 use Rattle.um_elim.specs.EliminationSteps.{AreStepsOf, IsClosedLeft, IsStuck}
 use Rattle.um_rows.specs.declared.row.Row.{Row}
 use Rattle.um_rows.specs.Generalised.{is_parameter}
 use Rattle.um_rows.specs.Steps.{units_of}
-use Rattle.um_kept.specs.declared.kept.Making.{Making}
+use Rattle.um_kept.specs.declared.kept.PartialCertificate.{PartialCertificate}
 use Rattle.um_kept.specs.declared.kept.Head.{Head}
 use Rattle.um_kept.specs.declared.row.Refused.{Refused}
 use Rattle.um_kept.specs.declared.stop.CertStop.{CertStop}
 use Rattle.um_kept.specs.declared.stop.CertStop.TheVariants as stop
 use Rattle.um_kept.specs.declared.made.Treated.{Treated}
 use Rattle.um_kept.specs.declared.made.Treated.TheVariants as treated
-use Rattle.um_kept.specs.Making.{Kept, row_unit, row_total, first, IsReached}
+use Rattle.um_kept.specs.Kept.{Kept, row_unit, row_total, first, IsReached}
 use Rattle.um_kept.specs.Formed.{IsPowerIn, IsModulus, PassesInRows}
 
 -- the base unit of no unit parameter, which come behind the declared ones, stands in it
@@ -41,7 +41,7 @@ back_at h bs (Base n) =
     else atom (Base n)
 back_at h bs (Var k) = nth bs k
 
-pub record Agrees (h : Head) (m : Making) (kept : Kept) : Type 0 where
+pub record Agrees (h : Head) (m : PartialCertificate) (kept : Kept) : Type 0 where
   pub solution : m.solution.items ≡ kept.solution
   pub count : length m.solution.items ≡ h.slots
   pub below : All (VariablesBelow h.slots) m.solution.items
@@ -55,11 +55,11 @@ pub record Agrees (h : Head) (m : Making) (kept : Kept) : Type 0 where
 
 -- a product of rows with this modulus shows that the row has no solution
 pub record IsRefusedAs (rows : List PowerMap) (kept : Kept) (k : ℕ) (refused : Refused) : Type 0 where
-  pub turns : List Turn
-  pub are : AreStepsOf (row_unit rows kept k) turns
-  pub modulus : IsModulus rows kept k turns refused.modulus
-  pub total : refused.total ≡ row_total rows kept k turns
-  pub ends : IsClosedLeft turns (row_unit rows kept k) ⊎ IsStuck turns (row_unit rows kept k)
+  pub steps : List ElimStep
+  pub are : AreStepsOf (row_unit rows kept k) steps
+  pub modulus : IsModulus rows kept k steps refused.modulus
+  pub total : refused.total ≡ row_total rows kept k steps
+  pub ends : IsClosedLeft steps (row_unit rows kept k) ⊎ IsStuck steps (row_unit rows kept k)
   pub narrow : IsNarrow refused.total
 
 -- ---- rows one after another
@@ -75,8 +75,8 @@ AreRefused h rows row refused =
 
 -- what is kept after all rows, or the first that has no solution together with those before it
 abbrev pub AreMade : Head → List Row → Treated → Type 0
-AreMade h rows (treated.Made making) =
-    (kept : Kept) × IsReached (units_of rows) (start h) (length rows) kept × Agrees h making kept
+AreMade h rows (treated.Made partial) =
+    (kept : Kept) × IsReached (units_of rows) (start h) (length rows) kept × Agrees h partial kept
 AreMade h rows (treated.Refused row refused) = AreRefused h rows row refused
 
 abbrev pub CarriesInRows : Head → List Row → CertStop → Type 0

@@ -8,18 +8,18 @@ use Rattle.um_units.specs.declared.Term.{Term}
 use Rattle.um_units.specs.PowerMap.{PowerMap, one, mul, inv, pow, power_of, replace, nth}
 use Rattle.um_units.specs.Variables.{VariablesBelow}
 use Rattle.um_wide.specs.Room.{IsNarrow}
-use Rattle.um_elim.specs.declared.turning.Turn.{Turn}
+use Rattle.um_elim.specs.declared.elim_step.ElimStep.{ElimStep}
 use Rattle.um_elim.specs.Pivot.{has_other, is_base}
-use Rattle.um_elim.specs.Turn.{multiply, signed}
+use Rattle.um_elim.specs.ElimStep.{multiply, signed}
 use Rattle.um_elim.specs.EliminationSteps.{unit_after, AreStepsOf}
 use Rattle.um_rows.specs.Generalised.{generalised_unit}
-use Rattle.um_kept.specs.declared.kept.Making.{Making}
+use Rattle.um_kept.specs.declared.kept.PartialCertificate.{PartialCertificate}
 use Rattle.um_kept.specs.declared.kept.Head.{Head}
 use Rattle.um_kept.specs.declared.row.Refused.{Refused}
 use Rattle.um_kept.specs.declared.stop.CertStop.{CertStop}
 use Rattle.um_kept.specs.declared.stop.CertStop.TheVariants as stop
 use Rattle.um_check.specs.Existence.{at_slot, total, parts_after}
-use Rattle.um_kept.specs.Making.{Kept, row_unit, turned, IsRowMade}
+use Rattle.um_kept.specs.Kept.{Kept, row_unit, kept_after_steps, IsRowMade}
 use Rattle.um_kept.specs.Formed.{IsPowerIn, PassesInRow}
 use Rattle.um_kept.specs.Answers.{Agrees, IsRefusedAs}
 
@@ -39,7 +39,7 @@ CarriesOneOf limit us (stop.CertRange z) = (j : ℕ) × (j < length us) × IsPow
 CarriesOneOf limit us stop.NoMemory = Unit {0}
 
 -- a row is treated: it is made, or has no solution
-abbrev pub IsRowTreated : List PowerMap → Kept → ℕ → Head → Making → Option Refused → Type 0
+abbrev pub IsRowTreated : List PowerMap → Kept → ℕ → Head → PartialCertificate → Option Refused → Type 0
 IsRowTreated rows kept k h new None = (next : Kept) × IsRowMade rows kept k next × Agrees h new next
 IsRowTreated rows kept k h new (Some refused) = IsRefusedAs rows kept k refused
 
@@ -47,29 +47,30 @@ abbrev pub CarriesInRow : List PowerMap → Kept → ℕ → CertStop → Type 0
 CarriesInRow rows kept k (stop.CertRange z) = PassesInRow rows kept k z
 CarriesInRow rows kept k stop.NoMemory = Unit {0}
 
--- the turns invert the row an odd number of times
-abbrev pub is_inverted : List Turn → Bool
+-- the steps invert the row an odd number of times
+abbrev pub is_inverted : List ElimStep → Bool
 is_inverted [] = false
 is_inverted (t ∷ ts) = if t.inverted then not (is_inverted ts) else is_inverted ts
 
--- after some turns of the row
-pub record IsTurning
-    (rows : List PowerMap) (kept : Kept) (k : ℕ) (h : Head) (m : Making) (r : PowerMap) (inverted : Bool) : Type 0 where
-  pub turns : List Turn
-  pub are : AreStepsOf (row_unit rows kept k) turns
-  pub left : r ≡ unit_after turns (row_unit rows kept k)
-  pub agrees : Agrees h m (turned rows kept k turns)
-  pub sign : inverted ≡ is_inverted turns
+-- after some steps of the row
+pub record IsRowUnderWay
+    (rows : List PowerMap) (kept : Kept) (k : ℕ) (h : Head) (m : PartialCertificate)
+    (r : PowerMap) (inverted : Bool) : Type 0 where
+  pub steps : List ElimStep
+  pub are : AreStepsOf (row_unit rows kept k) steps
+  pub left : r ≡ unit_after steps (row_unit rows kept k)
+  pub agrees : Agrees h m (kept_after_steps rows kept k steps)
+  pub sign : inverted ≡ is_inverted steps
 
 -- what is kept is ready for a row over its slots
-pub record IsReady (m : Making) (row : PowerMap) : Type 0 where
+pub record IsReady (m : PartialCertificate) (row : PowerMap) : Type 0 where
   pub few : length m.parts.items ≤ 2000
   pub narrow : All IsNarrow m.parts.items
   pub below : VariablesBelow (length m.parts.items) row
   pub positive : pos 0 <ℤ m.divisor
 
 -- the powers of rows that the inverse substitution gives for row k
-abbrev pub total_in : Making → PowerMap → ℕ → PowerMap
+abbrev pub total_in : PartialCertificate → PowerMap → ℕ → PowerMap
 total_in m row k = total (λ j. slice_index_or m.parts.items j one) row k m.divisor
 
 -- ---- the end of a row: each slot's powers of rows after it
@@ -108,28 +109,28 @@ abbrev pub first_size : List Term → Option ℕ
 first_size [] = None
 first_size (t ∷ ts) = Some (nat_abs t.power)
 
--- ---- one turn, of what the code keeps
+-- ---- one step, of what the code keeps
 
--- what the turn's variable x goes back to after x times w was put for it
+-- what the step's variable x goes back to after x times w was put for it
 abbrev pub divided_at : Head → List PowerMap → ℕ → PowerMap → PowerMap
 divided_at h bs x w =
     mul (nth bs x) (inv (replace (nth bs) (generalised_unit h.bases h.parameters h.slots w)))
 
-pub record IsTurned (h : Head) (old new : Making) (x : ℕ) (w : PowerMap) : Type 0 where
+pub record IsAfterStep (h : Head) (old new : PartialCertificate) (x : ℕ) (w : PowerMap) : Type 0 where
   pub solution : new.solution.items ≡ map (replace (multiply x w)) old.solution.items
   pub back : new.back.items ≡ set old.back.items x (divided_at h old.back.items x w)
   pub divisor : new.divisor ≡ old.divisor
   pub parts : new.parts ≡ old.parts
 
 -- a power of the row, of a slot's unit or of the way back
-abbrev pub CarriesInTurn :
+abbrev pub CarriesInStep :
     Head → List PowerMap → List PowerMap → PowerMap → ℕ → Bool → PowerMap → CertStop → Type 0
-CarriesInTurn h solution bs r x inverted w (stop.CertRange z) =
+CarriesInStep h solution bs r x inverted w (stop.CertRange z) =
     (2147483647 < nat_abs z)
     × (IsPowerIn z (replace (multiply x w) (signed inverted r))
     ⊎ ((j : ℕ) × (j < length solution) × IsPowerIn z (replace (multiply x w) (nth solution j)))
     ⊎ IsPowerIn z (divided_at h bs x w))
-CarriesInTurn h solution bs r x inverted w stop.NoMemory = Unit {0}
+CarriesInStep h solution bs r x inverted w stop.NoMemory = Unit {0}
 
 -- variable m stands in the unit to a positive power, no other does, and the powers of base units are below m's
 pub record IsLeftAlone (m : ℕ) (r : PowerMap) : Type 0 where

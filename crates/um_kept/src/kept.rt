@@ -5,20 +5,20 @@ ghost use Rattle.std.specs.Prelude.{MatchResult, IfErr};
 ghost use Rattle.um_units.specs.declared.Atom.TheVariants.{Var};
 ghost use Rattle.um_units.specs.PowerMap.{PowerMap, one, atom, inv, mul, pow, power_of, replace, nth};
 ghost use Rattle.um_units.specs.Variables.{VariablesBelow};
-ghost use Rattle.um_elim.specs.Turn.{multiply, substitute};
+ghost use Rattle.um_elim.specs.ElimStep.{multiply, substitute};
 ghost use Rattle.um_elim.specs.Solution.{rigid_unit};
 ghost use Rattle.um_rows.specs.Generalised.{generalised_unit as unit_in_place};
 ghost use Rattle.um_wide.specs.Room.{IsNarrow};
 ghost use Rattle.std.proofs.Common.{neg_ℤ};
 ghost use Rattle.std.specs.Int.Signed.{◌<ℤ◌};
-ghost use Rattle.um_kept.specs.Making.{first};
+ghost use Rattle.um_kept.specs.Kept.{first};
 ghost use Rattle.um_kept.specs.Answers.{Agrees, CarriesPower};
 ghost use Rattle.um_kept.specs.Steps.{ArePartsAfter, CarriesOneOf, CarriesOneOfParts};
 
 use crate::CertStop;
 use crate::past::{narrowed, times, unit_of};
 use std::alloc::{AllocError, Global};
-use um_elim::Turn;
+use um_elim::ElimStep;
 use um_infer::generalised_unit;
 use um_units::{Atom, Unit};
 use um_wide::WideUnit;
@@ -32,9 +32,9 @@ pub struct Head {
     pub bases: u32,
 }
 
-/// What is kept.
+/// A certificate under way: what is kept of the rows so far.
 #[derive(Drop)]
-pub struct Making {
+pub struct PartialCertificate {
     /// A unit for each slot.
     pub solution: Vec<Unit>,
     /// The inverse substitution: for the variable of each slot, and then for the base unit of each unit parameter, the
@@ -47,11 +47,11 @@ pub struct Making {
 }
 
 /// What is kept before any row.
-pub fn first_kept(alloc: Global, head: Head) -> Result<Making, AllocError>
+pub fn first_kept(alloc: Global, head: Head) -> Result<PartialCertificate, AllocError>
     requires few { head.slots ≤ 2000 }
     requires parameters { head.parameters ≤ head.slots }
     requires bases { head.bases + head.parameters < 2 ^ 32 }
-    ensures { IfOk result (λ making. Agrees head making (first head.bases head.parameters head.slots)) }
+    ensures { IfOk result (λ partial. Agrees head partial (first head.bases head.parameters head.slots)) }
 {
     let mut solution = Vec::new(alloc);
     let mut back = Vec::new(alloc);
@@ -64,7 +64,7 @@ pub fn first_kept(alloc: Global, head: Head) -> Result<Making, AllocError>
     for k in 0..head.parameters {
         back.push(Unit::atom(alloc, Atom::Var(k))?)?;
     }
-    Ok(Making {
+    Ok(PartialCertificate {
         solution,
         back,
         divisor: 1,
@@ -104,26 +104,26 @@ pub fn divide_back(
     alloc: Global,
     back: &mut Vec<Unit>,
     head: Head,
-    turn: &Turn,
+    step: &ElimStep,
 ) -> Result<(), CertStop>
     requires count { length back.old.items ≡ head.slots + head.parameters }
-    requires variable { turn.now.variable < head.slots }
-    requires below { VariablesBelow head.slots turn.now.by }
+    requires variable { step.now.variable < head.slots }
+    requires below { VariablesBelow head.slots step.now.by }
     requires bases { head.bases + head.parameters < 2 ^ 32 }
     requires slots { head.slots + head.parameters < 2 ^ 32 }
-    ensures exact { OnOk result (back.new.items ≡ set back.old.items turn.now.variable
-        (mul (nth back.old.items turn.now.variable) (inv (replace (nth back.old.items)
-        (unit_in_place head.bases head.parameters head.slots turn.now.by))))) }
+    ensures exact { OnOk result (back.new.items ≡ set back.old.items step.now.variable
+        (mul (nth back.old.items step.now.variable) (inv (replace (nth back.old.items)
+        (unit_in_place head.bases head.parameters head.slots step.now.by))))) }
     ensures range { IfErr result (CarriesPower 2147483647
-        (mul (nth back.old.items turn.now.variable) (inv (replace (nth back.old.items)
-        (unit_in_place head.bases head.parameters head.slots turn.now.by))))) }
+        (mul (nth back.old.items step.now.variable) (inv (replace (nth back.old.items)
+        (unit_in_place head.bases head.parameters head.slots step.now.by))))) }
 {
-    let by = generalised_unit(alloc, head.bases, head.parameters, head.slots, &turn.by)?;
+    let by = generalised_unit(alloc, head.bases, head.parameters, head.slots, &step.by)?;
     let inverse = by.inv(alloc)?;
     let image = WideUnit::replaced(alloc, &inverse, back)?;
-    let own = WideUnit::power(alloc, &back[turn.variable as usize], 1)?;
+    let own = WideUnit::power(alloc, &back[step.variable as usize], 1)?;
     let divided = own.mul(alloc, &image)?;
-    back[turn.variable as usize] = unit_of(alloc, &divided)?;
+    back[step.variable as usize] = unit_of(alloc, &divided)?;
     Ok(())
 }
 

@@ -15,7 +15,7 @@ mod past;
 mod row;
 mod stop;
 
-pub use kept::{Head, Making};
+pub use kept::{Head, PartialCertificate};
 pub use made::{Treated, make_rows, parts_of};
 pub use past::narrowed;
 pub use row::Refused;

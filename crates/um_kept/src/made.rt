@@ -11,7 +11,7 @@ ghost use Rattle.um_check.specs.Existence.{exponents};
 ghost use Rattle.um_kept.specs.Answers.{AreMade, CarriesInRows};
 
 use crate::CertStop;
-use crate::kept::{Head, Making, first_kept};
+use crate::kept::{Head, PartialCertificate, first_kept};
 use crate::row::{Refused, make_row};
 use std::alloc::Global;
 use um_check::{Part, Parts};
@@ -21,7 +21,7 @@ use um_wide::WideUnit;
 
 /// What rows come to: what is kept after all of them, or the first that has no solution together with those before it.
 pub enum Treated {
-    Made(Making),
+    Made(PartialCertificate),
     Refused { row: u32, refused: Refused },
 }
 
@@ -34,24 +34,24 @@ pub fn make_rows(alloc: Global, head: Head, rows: &[Row]) -> Result<Treated, Cer
     requires number { length rows.now ≤ 4294967295 }
     ensures { MatchResult result (AreMade head rows.now) (CarriesInRows head rows.now) }
 {
-    let mut making = first_kept(alloc, head)?;
+    let mut partial = first_kept(alloc, head)?;
     for k in 0..rows.len() {
-        match make_row(alloc, &mut making, head, k as u32, &rows[k].unit) {
+        match make_row(alloc, &mut partial, head, k as u32, &rows[k].unit) {
             Ok(None) => {}
             Ok(Some(refused)) => {
-                drop(making);
+                drop(partial);
                 return Ok(Treated::Refused {
                     row: k as u32,
                     refused,
                 });
             }
             Err(stop) => {
-                drop(making);
+                drop(partial);
                 return Err(stop);
             }
         }
     }
-    Ok(Treated::Made(making))
+    Ok(Treated::Made(partial))
 }
 
 /// The powers of rows as parts.

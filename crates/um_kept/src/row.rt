@@ -9,21 +9,21 @@ ghost use Rattle.um_units.specs.declared.Term.{Term as TermData};
 ghost use Rattle.um_units.specs.PowerMap.{PowerMap, one, atom, nth, pow, replace};
 ghost use Rattle.um_units.specs.Variables.{VariablesBelow, atom_below};
 ghost use Rattle.um_elim.specs.Pivot.{is_base, is_other, pivot};
-ghost use Rattle.um_elim.specs.Turn.{multiply, signed};
+ghost use Rattle.um_elim.specs.ElimStep.{multiply, signed};
 ghost use Rattle.um_wide.specs.Room.{IsNarrow, IsWithin};
 ghost use Rattle.um_check.specs.Existence.{at_slot};
-ghost use Rattle.um_kept.specs.Making.{Kept};
+ghost use Rattle.um_kept.specs.Kept.{Kept};
 ghost use Rattle.um_kept.specs.declared.kept.Head.{Head as HeadData};
 ghost use Rattle.um_kept.specs.Answers.{Agrees, CarriesPower};
-ghost use Rattle.um_kept.specs.Steps.{CarriesInRow, CarriesInTurn, CarriesNumber, CarriesRefusal, IsLeftAlone, IsReady};
-ghost use Rattle.um_kept.specs.Steps.{IsRowTreated, IsTurned, IsTurning, first_size, parts_product, sign_of};
+ghost use Rattle.um_kept.specs.Steps.{CarriesInRow, CarriesInStep, CarriesNumber, CarriesRefusal, IsLeftAlone, IsReady};
+ghost use Rattle.um_kept.specs.Steps.{IsRowTreated, IsAfterStep, IsRowUnderWay, first_size, parts_product, sign_of};
 ghost use Rattle.um_kept.specs.Steps.{total_in, variable_count};
 
 use crate::CertStop;
-use crate::kept::{Head, Making, divide_back, end_variable, multiply_all};
+use crate::kept::{Head, PartialCertificate, divide_back, end_variable, multiply_all};
 use crate::past::{narrowed, times, unit_of};
 use std::alloc::Global;
-use um_elim::{Turn, next_turn};
+use um_elim::{ElimStep, next_step};
 use um_units::{Atom, NoMemory, Term, Unit, UnitStop};
 use um_wide::WideUnit;
 
@@ -131,15 +131,19 @@ fn product_of_parts(
 }
 
 /// The powers of rows that the inverse substitution gives for the row, with the sign of its steps.
-fn row_total(alloc: Global, making: &Making, row: &TreatedRow) -> Result<WideUnit, CertStop>
-    requires ready { IsReady making.now row.now.unit.now }
+fn row_total(
+    alloc: Global,
+    partial: &PartialCertificate,
+    row: &TreatedRow,
+) -> Result<WideUnit, CertStop>
+    requires ready { IsReady partial.now row.now.unit.now }
     ensures exact { IfOk result (λ made. made
-        ≡ signed row.now.inverted (total_in making.now row.now.unit.now row.now.number)) }
+        ≡ signed row.now.inverted (total_in partial.now row.now.unit.now row.now.number)) }
     ensures narrow { MatchResult result IsNarrow (CarriesPower 9223372036854775807
-        (signed row.now.inverted (total_in making.now row.now.unit.now row.now.number))) }
+        (signed row.now.inverted (total_in partial.now row.now.unit.now row.now.number))) }
 {
-    let own = own_power(alloc, row.number, making.divisor, row.inverted)?;
-    let others = product_of_parts(alloc, &making.parts, row.unit.terms(), row.inverted)?;
+    let own = own_power(alloc, row.number, partial.divisor, row.inverted)?;
+    let others = product_of_parts(alloc, &partial.parts, row.unit.terms(), row.inverted)?;
     let sum = others.mul(alloc, &own)?;
     narrowed(sum)
 }
@@ -192,62 +196,62 @@ fn flipped(inverted: bool, again: bool) -> bool
 }
 
 /// What the step leaves of the unit.
-fn turned(alloc: Global, r: &Unit, turn: &Turn) -> Result<Unit, CertStop>
+fn unit_after_step(alloc: Global, r: &Unit, step: &ElimStep) -> Result<Unit, CertStop>
     ensures { MatchResult result
-        (λ left. left ≡ replace (multiply turn.now.variable turn.now.by) (signed turn.now.inverted r.now))
-        (CarriesPower 2147483647 (replace (multiply turn.now.variable turn.now.by) (signed turn.now.inverted r.now))) }
+        (λ left. left ≡ replace (multiply step.now.variable step.now.by) (signed step.now.inverted r.now))
+        (CarriesPower 2147483647 (replace (multiply step.now.variable step.now.by) (signed step.now.inverted r.now))) }
 {
-    let power = r.power_of(Atom::Var(turn.variable));
-    if turn.inverted {
-        return times(alloc, r, -1, &turn.by, -power);
+    let power = r.power_of(Atom::Var(step.variable));
+    if step.inverted {
+        return times(alloc, r, -1, &step.by, -power);
     }
-    times(alloc, r, 1, &turn.by, power)
+    times(alloc, r, 1, &step.by, power)
 }
 
 /// The step, of what is left of the row and of what is kept.
-fn make_turn(
+fn make_step(
     alloc: Global,
-    making: &mut Making,
+    partial: &mut PartialCertificate,
     head: Head,
     r: &Unit,
-    turn: &Turn,
+    step: &ElimStep,
 ) -> Result<Unit, CertStop>
-    requires count { length making.old.back.items ≡ head.slots + head.parameters }
-    requires variable { turn.now.variable < head.slots }
-    requires below { VariablesBelow head.slots turn.now.by }
+    requires count { length partial.old.back.items ≡ head.slots + head.parameters }
+    requires variable { step.now.variable < head.slots }
+    requires below { VariablesBelow head.slots step.now.by }
     requires bases { head.bases + head.parameters < 2 ^ 32 }
     requires slots { head.slots + head.parameters < 2 ^ 32 }
     ensures left { IfOk result (λ left. left
-        ≡ replace (multiply turn.now.variable turn.now.by) (signed turn.now.inverted r.now)) }
-    ensures range { IfErr result (CarriesInTurn head making.old.solution.items making.old.back.items r.now
-        turn.now.variable turn.now.inverted turn.now.by) }
-    ensures kept { OnOk result (IsTurned head making.old making.new turn.now.variable turn.now.by) }
+        ≡ replace (multiply step.now.variable step.now.by) (signed step.now.inverted r.now)) }
+    ensures range { IfErr result (CarriesInStep head partial.old.solution.items partial.old.back.items r.now
+        step.now.variable step.now.inverted step.now.by) }
+    ensures kept { OnOk result (IsAfterStep head partial.old partial.new step.now.variable step.now.by) }
 {
-    let left = turned(alloc, r, turn)?;
-    multiply_all(alloc, &mut making.solution, turn.variable, &turn.by)?;
-    divide_back(alloc, &mut making.back, head, turn)?;
+    let left = unit_after_step(alloc, r, step)?;
+    multiply_all(alloc, &mut partial.solution, step.variable, &step.by)?;
+    divide_back(alloc, &mut partial.back, head, step)?;
     Ok(left)
 }
 
 /// The powers of rows that the inverse substitution gives for the row, and a factor times the divisor.
 fn row_refusal(
     alloc: Global,
-    making: &Making,
+    partial: &PartialCertificate,
     row: &TreatedRow,
     factor: i64,
 ) -> Result<Refused, CertStop>
-    requires ready { IsReady making.now row.now.unit.now }
+    requires ready { IsReady partial.now row.now.unit.now }
     requires factor { (pos 0 <ℤ factor) × (nat_abs factor ≤ 2147483648) }
     ensures total { IfOk result (λ refused. refused.total
-        ≡ signed row.now.inverted (total_in making.now row.now.unit.now row.now.number)) }
-    ensures modulus { IfOk result (λ refused. refused.modulus ≡ making.now.divisor *ℤ factor) }
+        ≡ signed row.now.inverted (total_in partial.now row.now.unit.now row.now.number)) }
+    ensures modulus { IfOk result (λ refused. refused.modulus ≡ partial.now.divisor *ℤ factor) }
     ensures narrow { IfOk result (λ refused. IsNarrow refused.total) }
     ensures range { IfErr result (CarriesRefusal
-        (signed row.now.inverted (total_in making.now row.now.unit.now row.now.number))
-        (making.now.divisor *ℤ factor)) }
+        (signed row.now.inverted (total_in partial.now row.now.unit.now row.now.number))
+        (partial.now.divisor *ℤ factor)) }
 {
-    let total = row_total(alloc, making, row)?;
-    match number_times(making.divisor, factor) {
+    let total = row_total(alloc, partial, row)?;
+    match number_times(partial.divisor, factor) {
         Ok(modulus) => Ok(Refused { total, modulus }),
         Err(stop) => {
             drop(total);
@@ -257,21 +261,25 @@ fn row_refusal(
 }
 
 /// The end of a row of which no variable is left.
-fn closed_end(alloc: Global, making: &Making, row: &TreatedRow) -> Result<Option<Refused>, CertStop>
-    requires ready { IsReady making.now row.now.unit.now }
+fn closed_end(
+    alloc: Global,
+    partial: &PartialCertificate,
+    row: &TreatedRow,
+) -> Result<Option<Refused>, CertStop>
+    requires ready { IsReady partial.now row.now.unit.now }
     requires closed { pivot row.now.left.now ≡ None }
     ensures treated { (h : HeadData) (rows : List PowerMap) (kept : Kept) → row.now.unit.now ≡ nth rows row.now.number
-        → IsTurning rows kept row.now.number h making.now row.now.left.now row.now.inverted
-        → IfOk result (IsRowTreated rows kept row.now.number h making.now) }
+        → IsRowUnderWay rows kept row.now.number h partial.now row.now.left.now row.now.inverted
+        → IfOk result (IsRowTreated rows kept row.now.number h partial.now) }
     ensures range { (h : HeadData) (rows : List PowerMap) (kept : Kept) → row.now.unit.now ≡ nth rows row.now.number
-        → IsTurning rows kept row.now.number h making.now row.now.left.now row.now.inverted
+        → IsRowUnderWay rows kept row.now.number h partial.now row.now.left.now row.now.inverted
         → IfErr result (CarriesInRow rows kept row.now.number) }
 {
     match first_size(row.left.terms()) {
         None => Ok(None),
         Some(size) => {
             let factor = i64::from(size) + 1;
-            let refused = row_refusal(alloc, making, row, factor)?;
+            let refused = row_refusal(alloc, partial, row, factor)?;
             Ok(Some(refused))
         }
     }
@@ -280,34 +288,34 @@ fn closed_end(alloc: Global, making: &Making, row: &TreatedRow) -> Result<Option
 /// The end of a row of which one variable is left.
 fn power_end(
     alloc: Global,
-    making: &mut Making,
+    partial: &mut PartialCertificate,
     row: &TreatedRow,
     m: u32,
 ) -> Result<Option<Refused>, CertStop>
-    requires ready { IsReady making.old row.now.unit.now }
-    requires count { length making.old.parts.items ≡ length making.old.solution.items }
+    requires ready { IsReady partial.old row.now.unit.now }
+    requires count { length partial.old.parts.items ≡ length partial.old.solution.items }
     requires alone { IsLeftAlone m row.now.left.now }
     ensures treated { (h : HeadData) (rows : List PowerMap) (kept : Kept) → row.now.unit.now ≡ nth rows row.now.number
-        → IsTurning rows kept row.now.number h making.old row.now.left.now row.now.inverted
-        → IfOk result (IsRowTreated rows kept row.now.number h making.new) }
+        → IsRowUnderWay rows kept row.now.number h partial.old row.now.left.now row.now.inverted
+        → IfOk result (IsRowTreated rows kept row.now.number h partial.new) }
     ensures range { (h : HeadData) (rows : List PowerMap) (kept : Kept) → row.now.unit.now ≡ nth rows row.now.number
-        → IsTurning rows kept row.now.number h making.old row.now.left.now row.now.inverted
+        → IsRowUnderWay rows kept row.now.number h partial.old row.now.left.now row.now.inverted
         → IfErr result (CarriesInRow rows kept row.now.number) }
 {
     let p = row.left.power_of(Atom::Var(m));
-    let refused = row_refusal(alloc, making, row, i64::from(p))?;
+    let refused = row_refusal(alloc, partial, row, i64::from(p))?;
     if has_base_unit(row.left.terms()) {
         return Ok(Some(refused));
     }
     end_variable(
         alloc,
-        &mut making.solution,
-        &mut making.parts,
+        &mut partial.solution,
+        &mut partial.parts,
         m,
         p,
         &refused.total,
     )?;
-    making.divisor = refused.modulus;
+    partial.divisor = refused.modulus;
     drop(refused);
     Ok(None)
 }
@@ -315,7 +323,7 @@ fn power_end(
 /// Treats row k: elimination steps are made of what the solution makes of it, until one variable or none is left.
 pub fn make_row(
     alloc: Global,
-    making: &mut Making,
+    partial: &mut PartialCertificate,
     head: Head,
     k: u32,
     row: &Unit,
@@ -324,16 +332,16 @@ pub fn make_row(
     requires parameters { head.parameters ≤ head.slots }
     requires bases { head.bases + head.parameters < 2 ^ 32 }
     requires below { VariablesBelow head.slots row.now }
-    requires making { (kept : Kept) × Agrees head making.old kept }
-    ensures treated { (rows : List PowerMap) (kept : Kept) → row.now ≡ nth rows k → Agrees head making.old kept
-        → IfOk result (IsRowTreated rows kept k head making.new) }
-    ensures range { (rows : List PowerMap) (kept : Kept) → row.now ≡ nth rows k → Agrees head making.old kept
+    requires partial { (kept : Kept) × Agrees head partial.old kept }
+    ensures treated { (rows : List PowerMap) (kept : Kept) → row.now ≡ nth rows k → Agrees head partial.old kept
+        → IfOk result (IsRowTreated rows kept k head partial.new) }
+    ensures range { (rows : List PowerMap) (kept : Kept) → row.now ≡ nth rows k → Agrees head partial.old kept
         → IfErr result (CarriesInRow rows kept k) }
 {
-    let mut r = put_in_row(alloc, row, &making.solution)?;
+    let mut r = put_in_row(alloc, row, &partial.solution)?;
     let mut inverted = false;
     loop {
-        match next_turn(alloc, &r)? {
+        match next_step(alloc, &r)? {
             None => {
                 let row = TreatedRow {
                     number: k,
@@ -341,19 +349,19 @@ pub fn make_row(
                     inverted,
                     left: &r,
                 };
-                return closed_end(alloc, making, &row);
+                return closed_end(alloc, partial, &row);
             }
-            Some(turn) => {
-                r = make_turn(alloc, making, head, &r, &turn)?;
-                inverted = flipped(inverted, turn.inverted);
-                if !has_other_variable(r.terms(), turn.variable) {
+            Some(step) => {
+                r = make_step(alloc, partial, head, &r, &step)?;
+                inverted = flipped(inverted, step.inverted);
+                if !has_other_variable(r.terms(), step.variable) {
                     let row = TreatedRow {
                         number: k,
                         unit: row,
                         inverted,
                         left: &r,
                     };
-                    return power_end(alloc, making, &row, turn.variable);
+                    return power_end(alloc, partial, &row, step.variable);
                 }
             }
         }

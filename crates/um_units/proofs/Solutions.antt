@@ -7,7 +7,7 @@ use Rattle.std.proofs.lemmas.List.Elements.{All-nil, All-cons, All-head, All-tai
 use Rattle.um_units.specs.PowerMap.{PowerMap, one, atom, replace, nth}
 use Rattle.um_units.specs.declared.Atom.TheVariants.{Var}
 use Rattle.um_units.specs.Variables.{VariablesBelow}
-use Rattle.um_units.specs.Solutions.{Solves, IsJointSolution, IsSolvable, IsInstance}
+use Rattle.um_units.specs.Solutions.{Solves, IsJointSolution, IsSolvable, IsSubstitutionInstance}
 use Rattle.um_units.proofs.Replacement.{replace-one, replace-replace, replace-same, replace-nth_map}
 
 -- ---- the rows that a substitution solves
@@ -64,24 +64,24 @@ IsJointSolution-replace slots rows units t below joint = record {
         (each rows (All-tail (VariablesBelow (length units)) row rows below) (All-tail (λ row. replace (nth units) row ≡ one) row rows h))
 
 -- ---- instances
-pub IsInstance_refl : (units : List PowerMap) → IsInstance units units
-IsInstance_refl units = ((λ k. atom (Var k)), each units)
+pub IsSubstitutionInstance_refl : (units : List PowerMap) → IsSubstitutionInstance units units
+IsSubstitutionInstance_refl units = ((λ k. atom (Var k)), each units)
   where
     each : (us : List PowerMap) → map (replace (λ k. atom (Var k))) us ≡ us
     each [] = refl
     each (u ∷ us) = λ i. replace-same u i ∷ each us i
 
 -- an instance of an instance is an instance
-pub IsInstance_trans : (us vs ws : List PowerMap) → IsInstance us vs → IsInstance vs ws → IsInstance us ws
-IsInstance_trans us vs ws p q = ((λ k. replace q.0 (p.0 k)), each us ∙ ap (map (replace q.0)) p.1 ∙ q.1)
+pub IsSubstitutionInstance_trans : (us vs ws : List PowerMap) → IsSubstitutionInstance us vs → IsSubstitutionInstance vs ws → IsSubstitutionInstance us ws
+IsSubstitutionInstance_trans us vs ws p q = ((λ k. replace q.0 (p.0 k)), each us ∙ ap (map (replace q.0)) p.1 ∙ q.1)
   where
     each : (us : List PowerMap) → map (replace (λ k. replace q.0 (p.0 k))) us ≡ map (replace q.0) (map (replace p.0) us)
     each [] = refl
     each (u ∷ us) = λ i. sym (replace-replace p.0 q.0 u) i ∷ each us i
 
-pub length-instance : (us vs : List PowerMap) → IsInstance us vs → length vs ≡ length us
+pub length-instance : (us vs : List PowerMap) → IsSubstitutionInstance us vs → length vs ≡ length us
 length-instance us vs p = ap length (sym p.1) ∙ length-map us (replace p.0)
 
 -- an instance of a joint solution is one
-pub IsJointSolution-instance : (slots : ℕ) (rows us vs : List PowerMap) → All (VariablesBelow slots) rows → IsJointSolution slots rows us → IsInstance us vs → IsJointSolution slots rows vs
+pub IsJointSolution-instance : (slots : ℕ) (rows us vs : List PowerMap) → All (VariablesBelow slots) rows → IsJointSolution slots rows us → IsSubstitutionInstance us vs → IsJointSolution slots rows vs
 IsJointSolution-instance slots rows us vs below joint p = subst (IsJointSolution slots rows) p.1 (IsJointSolution-replace slots rows us p.0 below joint)

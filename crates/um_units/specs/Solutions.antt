@@ -18,5 +18,5 @@ abbrev pub IsSolvable : ℕ → List PowerMap → Type 0
 IsSolvable slots rows = (units : List PowerMap) × IsJointSolution slots rows units
 
 -- some substitution gives v for the units
-abbrev pub IsInstance : List PowerMap → List PowerMap → Type 0
-IsInstance units v = (s : ℕ → PowerMap) × (map (replace s) units ≡ v)
+abbrev pub IsSubstitutionInstance : List PowerMap → List PowerMap → Type 0
+IsSubstitutionInstance units v = (s : ℕ → PowerMap) × (map (replace s) units ≡ v)

@@ -2,7 +2,7 @@ use Rattle.std.proofs.Common.{subst, negsuc}
 use Rattle.um_units.specs.PowerMap.{mul, pow}
 use Rattle.um_units.specs.Range.{fits, RangeUnless}
 use Rattle.um_elim.proofs.InRange.{only_memory}
-use Rattle.um_elim.proofs.LastTurn.{over_variable, fits-over_variable}
+use Rattle.um_elim.proofs.LastStep.{over_variable, fits-over_variable}
 use Rattle.um_elim.proofs.replacement.over_variable.Goals as goal
 
 pub returns-clause-memory : goal.returns-clause-memory

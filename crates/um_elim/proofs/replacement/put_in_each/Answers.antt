@@ -5,12 +5,12 @@ use Rattle.std.proofs.lemmas.List.{get_or_read, take_more, take_all}
 use Rattle.std.proofs.lemmas.List.Sums.{list_all-from_AllPass}
 use Rattle.um_units.specs.PowerMap.{PowerMap, one, replace}
 use Rattle.um_units.specs.Range.{fits, IsStopUnless}
-use Rattle.um_elim.specs.Turn.{multiply}
+use Rattle.um_elim.specs.ElimStep.{multiply}
 use Rattle.um_elim.specs.Index.{holders, IsIndex}
 use Rattle.um_elim.proofs.Changes.{stop_in_list}
 use Rattle.um_elim.proofs.HeldSlots.{changed, changed-push, length-changed_slots, changed_holders, next_unit, next_within, own_default}
-use Rattle.um_elim.proofs.IndexTurn.{not_held}
-use Rattle.um_elim.proofs.LastTurn.{over_variable}
+use Rattle.um_elim.proofs.IndexStep.{not_held}
+use Rattle.um_elim.proofs.LastStep.{over_variable}
 use Rattle.um_elim.proofs.IndexBut.{index_but, length-but, holders-after}
 use Rattle.um_elim.proofs.replacement.put_in_each.Goals as goal
 

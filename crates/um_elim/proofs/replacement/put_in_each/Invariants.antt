@@ -1,6 +1,6 @@
 use Rattle.std.proofs.Common.{◌≡◌, take}
 use Rattle.um_units.specs.PowerMap.{replace}
-use Rattle.um_elim.specs.Turn.{multiply}
+use Rattle.um_elim.specs.ElimStep.{multiply}
 use Rattle.um_elim.proofs.HeldSlots.{changed}
 use Rattle.um_elim.proofs.IndexBut.{IsIndexBut}
 use Rattle.um_elim.proofs.replacement.put_in_each.Given as goal

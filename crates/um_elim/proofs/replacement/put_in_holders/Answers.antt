@@ -4,8 +4,8 @@ use Rattle.std.specs.List.{list_all}
 use Rattle.um_units.specs.declared.Atom.TheVariants.{Var}
 use Rattle.um_units.specs.PowerMap.{PowerMap, atom, inv, mul, replace}
 use Rattle.um_units.specs.Range.{fits, RangeUnless}
-use Rattle.um_elim.specs.Turn.{multiply, substitute}
-use Rattle.um_elim.proofs.LastTurn.{multiply-over_variable}
+use Rattle.um_elim.specs.ElimStep.{multiply, substitute}
+use Rattle.um_elim.proofs.LastStep.{multiply-over_variable}
 use Rattle.um_elim.proofs.replacement.put_in_holders.Goals as goal
 
 made : (m : ℕ) (factor change : PowerMap) → change ≡ mul factor (inv (atom (Var m))) → multiply m change ≡ substitute m factor

@@ -5,9 +5,9 @@ use Rattle.um_units.specs.PowerMap.{one, replace}
 use Rattle.um_units.specs.Range.{fits}
 use Rattle.um_units.specs.Variables.{variables_below}
 use Rattle.um_units.proofs.Variables.{variables_below-from_VariablesBelow}
-use Rattle.um_elim.specs.Turn.{multiply}
+use Rattle.um_elim.specs.ElimStep.{multiply}
 use Rattle.um_elim.specs.Index.{followed_terms}
-use Rattle.um_elim.proofs.LastTurn.{over_variable}
+use Rattle.um_elim.proofs.LastStep.{over_variable}
 use Rattle.um_elim.proofs.IndexBut.{IsIndexBut, length-but, index_put}
 use Rattle.um_elim.proofs.replacement.put_in_slot.Goals as goal
 

@@ -5,9 +5,9 @@ use Rattle.std.proofs.lemmas.Result.{err_from_is_err_and}
 use Rattle.um_units.specs.PowerMap.{replace, nth}
 use Rattle.um_units.specs.Range.{fits, IsStopUnless}
 use Rattle.um_elim.specs.Pivot.{least_power}
-use Rattle.um_elim.specs.Elimination.{Range, turns, eliminate}
-use Rattle.um_elim.specs.Steps.{IsTurn, RemainderBelow}
-use Rattle.um_elim.proofs.TurnSteps.{first_stops, turn_goes_on}
+use Rattle.um_elim.specs.Elimination.{Range, steps, eliminate}
+use Rattle.um_elim.specs.Steps.{IsStep, RemainderBelow}
+use Rattle.um_elim.proofs.StepsOfCode.{first_stops, step_goes_on}
 use Rattle.um_elim.proofs.solver.eliminate_row.Goals as goal
 
 pub returns-in_err-r-clause-outcome : goal.returns-in_err-r-clause-outcome
@@ -18,12 +18,12 @@ returns-in_err-r-clause-outcome c =
 
 pub loop-r-preserved : goal.loop-r-preserved
 loop-r-preserved c =
-    let w = subst (IsTurn c.loop-r.units.items c.loop-r.r c.take_turn.new.units.items) c.in-Again.is c.in_ok-remainder.ensures.outcome in
+    let w = subst (IsStep c.loop-r.units.items c.loop-r.r c.take_step.new.units.items) c.in-Again.is c.in_ok-remainder.ensures.outcome in
     record {
-      same = turn_goes_on c.loop-r.units.items c.take_turn.new.units.items c.loop-r.r c.in-Again.remainder (eliminate c.args.units.now.items c.args.row.now) c.loop-r.invariant.same w.0 w.1;
-      slots = c.take_turn.ensures.slots ∙ c.loop-r.invariant.slots;
+      same = step_goes_on c.loop-r.units.items c.take_step.new.units.items c.loop-r.r c.in-Again.remainder (eliminate c.args.units.now.items c.args.row.now) c.loop-r.invariant.same w.0 w.1;
+      slots = c.take_step.ensures.slots ∙ c.loop-r.invariant.slots;
       indexed = c.in_ok-remainder.ensures.indexed;
-      variables = subst (λ n. VariablesBelow n c.in-Again.remainder) (sym c.take_turn.ensures.slots) (subst (RemainderBelow (length c.loop-r.units.items)) c.in-Again.is c.in_ok-remainder.ensures.variables);
+      variables = subst (λ n. VariablesBelow n c.in-Again.remainder) (sym c.take_step.ensures.slots) (subst (RemainderBelow (length c.loop-r.units.items)) c.in-Again.is c.in_ok-remainder.ensures.variables);
     }
 
 pub loop-r-init : goal.loop-r-init
@@ -34,7 +34,7 @@ loop-r-init c =
     let exact : c.in_ok-r.r ≡ r = c.in_ok-r.ensures.exact ∙ ap (λ vs. replace (nth vs) row) c.deref.ensures.value in
     let fit : fits r ≡ true = ap (λ vs. fits (replace (nth vs) row)) (sym c.deref.ensures.value) ∙ c.in_ok-r.ensures.range in
     record {
-      same = ap (λ u. turns (suc (least_power u)) us u) exact ∙ sym (ap (λ b. cond b (turns (suc (least_power r)) us r) Range) fit);
+      same = ap (λ u. steps (suc (least_power u)) us u) exact ∙ sym (ap (λ b. cond b (steps (suc (least_power r)) us r) Range) fit);
       slots = refl;
       indexed = c.requires.indexed;
       variables = subst (VariablesBelow (length us)) (sym exact) (VariablesBelow-replace_nth (length us) us row c.requires.indexed.variables c.requires.variables);

@@ -11,7 +11,7 @@ use Rattle.um_kept.specs.Answers.{CarriesPower}
 use Rattle.um_kept.proofs.kept.divide_back.Goals as goal
 
 pub generalised_unit-requires-clause-variables : goal.generalised_unit-requires-clause-variables
-generalised_unit-requires-clause-variables c = unit_all c.args.head.slots c.args.turn.now.by c.requires.below
+generalised_unit-requires-clause-variables c = unit_all c.args.head.slots c.args.step.now.by c.requires.below
 
 -- what is formed
 formed : (bs : List PowerMap) (x : ℕ) (own image divided at by inverse u : PowerMap) → own ≡ pow at (pos 1) → at ≡ nth bs x → image ≡ replace (nth bs) inverse → inverse ≡ inv by → by ≡ u → divided ≡ mul own image → divided ≡ mul (nth bs x) (inv (replace (nth bs) u))
@@ -23,9 +23,9 @@ pub returns-in_err-back-clause-range : goal.returns-in_err-back-clause-range
 returns-in_err-back-clause-range c =
     let p = err_from_is_err_and c.from_residual-in_err-back.result c.from_residual-in_err-back.ensures.1 in
     let bs = c.args.back.now.items in
-    let x = c.args.turn.now.variable in
+    let x = c.args.step.now.variable in
     let h = c.args.head in
-    let u = generalised_unit h.bases h.parameters h.slots c.args.turn.now.by in
+    let u = generalised_unit h.bases h.parameters h.slots c.args.step.now.by in
     let low : x < length bs = (let n = c.requires.count in let v = c.requires.variable in omega (arith, n, v)) in
     let at : c.index.result.now ≡ nth bs x = get_or_read bs x _ low c.index.ensures (atom (Var x)) in
     let image = c.in_ok-image.ensures.exact ∙ ap (λ vs. replace (nth vs) c.in_ok-inverse.inverse) c.deref.ensures.value in
@@ -35,9 +35,9 @@ returns-in_err-back-clause-range c =
 pub returns-clause-exact : goal.returns-clause-exact
 returns-clause-exact c =
     let bs = c.args.back.now.items in
-    let x = c.args.turn.now.variable in
+    let x = c.args.step.now.variable in
     let h = c.args.head in
-    let u = generalised_unit h.bases h.parameters h.slots c.args.turn.now.by in
+    let u = generalised_unit h.bases h.parameters h.slots c.args.step.now.by in
     let low : x < length bs = (let n = c.requires.count in let v = c.requires.variable in omega (arith, n, v)) in
     let at : c.index.result.now ≡ nth bs x = get_or_read bs x _ low c.index.ensures (atom (Var x)) in
     let image = c.in_ok-image.ensures.exact ∙ ap (λ vs. replace (nth vs) c.in_ok-inverse.inverse) c.deref.ensures.value in

@@ -3,7 +3,7 @@ use Rattle.std.proofs.lemmas.Int.{to_z-of_z}
 use Rattle.std.proofs.lemmas.List.{get_or_read, length-set}
 use Rattle.um_units.specs.declared.Atom.TheVariants.{Var}
 use Rattle.um_units.specs.PowerMap.{one, atom, power_of, replace, nth}
-use Rattle.um_elim.specs.Turn.{substitute}
+use Rattle.um_elim.specs.ElimStep.{substitute}
 use Rattle.um_kept.proofs.Loops.{next_is, next_set, next_left, all_set}
 use Rattle.um_kept.proofs.Times.{absent_without}
 use Rattle.um_kept.proofs.kept.end_units.Goals as goal

@@ -1,6 +1,6 @@
 use Rattle.std.proofs.Common.{◌≡◌, ◌++◌, map, take, drop, length}
 use Rattle.um_units.specs.PowerMap.{one, replace}
-use Rattle.um_elim.specs.Turn.{substitute}
+use Rattle.um_elim.specs.ElimStep.{substitute}
 use Rattle.um_kept.proofs.kept.end_units.Given as goal
 
 abbrev pub invariant-loop-j : goal.invariant-loop-j

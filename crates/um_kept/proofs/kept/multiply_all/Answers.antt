@@ -4,7 +4,7 @@ use Rattle.std.proofs.lemmas.List.{get_or_read, length-set}
 use Rattle.std.proofs.lemmas.Result.{err_from_is_err_and}
 use Rattle.um_units.specs.declared.Atom.TheVariants.{Var}
 use Rattle.um_units.specs.PowerMap.{atom, mul, pow, power_of, replace, nth}
-use Rattle.um_elim.specs.Turn.{multiply}
+use Rattle.um_elim.specs.ElimStep.{multiply}
 use Rattle.um_elim.proofs.Shear.{multiply_nothing}
 use Rattle.um_kept.specs.Answers.{CarriesPower}
 use Rattle.um_kept.proofs.Loops.{next_is, next_set, next_left, all_set}

@@ -1,6 +1,6 @@
 use Rattle.std.proofs.Common.{◌≡◌, ◌++◌, map, take, drop, length}
 use Rattle.um_units.specs.PowerMap.{replace}
-use Rattle.um_elim.specs.Turn.{multiply}
+use Rattle.um_elim.specs.ElimStep.{multiply}
 use Rattle.um_kept.proofs.kept.multiply_all.Given as goal
 
 abbrev pub invariant-loop-j : goal.invariant-loop-j

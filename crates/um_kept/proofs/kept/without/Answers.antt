@@ -4,7 +4,7 @@ use Rattle.um_units.specs.declared.Atom.TheVariants.{Var}
 use Rattle.um_units.specs.PowerMap.{PowerMap, power_of, one, atom, mul, pow, replace}
 use Rattle.um_units.specs.Range.{fits}
 use Rattle.um_units.proofs.InRange.{fits-power_of}
-use Rattle.um_elim.specs.Turn.{substitute}
+use Rattle.um_elim.specs.ElimStep.{substitute}
 use Rattle.um_elim.proofs.InRange.{kept32, fits-substitute_one}
 use Rattle.um_kept.specs.Formed.{IsPowerIn}
 use Rattle.um_kept.proofs.Limits.{negated32}

@@ -9,7 +9,7 @@ use Rattle.um_rows.specs.Steps.{units_of}
 use Rattle.um_kept.specs.declared.kept.Head.{Head}
 use Rattle.um_kept.specs.declared.stop.CertStop.{CertStop}
 use Rattle.um_kept.specs.declared.stop.CertStop.TheVariants as stop
-use Rattle.um_kept.specs.Making.{Kept, IsReached}
+use Rattle.um_kept.specs.Kept.{Kept, IsReached}
 use Rattle.um_kept.specs.Answers.{CarriesInRows, start}
 use Rattle.um_kept.specs.Steps.{CarriesInRow}
 use Rattle.um_kept.proofs.made.make_rows.Goals as goal
@@ -25,14 +25,14 @@ next : (k : ℕ) → k + 1 ≡ suc k
 next k = omega arith
 
 pub loop-k-init : goal.loop-k-init
-loop-k-init c = (start c.args.head, refl, c.in_ok-making.ensures)
+loop-k-init c = (start c.args.head, refl, c.in_ok-partial.ensures)
 
 pub make_row-requires-clause-below : goal.make_row-requires-clause-below
 make_row-requires-clause-below c =
     All-get_or (λ (row : Row). VariablesBelow c.args.head.slots row.unit) c.args.rows.now c.loop-k.k c.index-rows-k.result c.loop-k-test.true c.requires.rows
 
-pub make_row-requires-clause-making : goal.make_row-requires-clause-making
-make_row-requires-clause-making c = (c.loop-k.invariant.0, c.loop-k.invariant.2)
+pub make_row-requires-clause-partial : goal.make_row-requires-clause-partial
+make_row-requires-clause-partial c = (c.loop-k.invariant.0, c.loop-k.invariant.2)
 
 pub returns-in-Ok-Some : goal.returns-in-Ok-Some
 returns-in-Ok-Some c =

@@ -1,7 +1,7 @@
 use Rattle.um_rows.specs.Steps.{units_of}
-use Rattle.um_kept.specs.Making.{Kept, IsReached}
+use Rattle.um_kept.specs.Kept.{Kept, IsReached}
 use Rattle.um_kept.specs.Answers.{Agrees, start}
 use Rattle.um_kept.proofs.made.make_rows.Given as goal
 
 abbrev pub invariant-loop-k : goal.invariant-loop-k
-invariant-loop-k l = (kept : Kept) × IsReached (units_of l.rows) (start l.head) l.k kept × Agrees l.head l.making kept
+invariant-loop-k l = (kept : Kept) × IsReached (units_of l.rows) (start l.head) l.k kept × Agrees l.head l.partial kept

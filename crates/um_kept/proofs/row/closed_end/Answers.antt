@@ -5,10 +5,10 @@ use Rattle.std.proofs.lemmas.Result.{err_from_is_err_and}
 use Rattle.um_units.specs.declared.Atom.TheVariants.{Base}
 use Rattle.um_units.specs.PowerMap.{PowerMap, one}
 use Rattle.um_units.proofs.InRange.{fits-power_of}
-use Rattle.um_elim.specs.Turn.{signed}
+use Rattle.um_elim.specs.ElimStep.{signed}
 use Rattle.um_check.specs.Existence.{total}
 use Rattle.um_kept.specs.Steps.{CarriesRefusal, first_size}
-use Rattle.um_kept.proofs.TurnEnds.{FirstBase, first_base, no_terms_one}
+use Rattle.um_kept.proofs.StepEnds.{FirstBase, first_base, no_terms_one}
 use Rattle.um_kept.proofs.RowStops.{total_is_row, closed_made, closed_stops, closed_refused}
 use Rattle.um_kept.proofs.row.closed_end.Goals as goal
 
@@ -24,14 +24,14 @@ row_refusal-requires-clause-factor c =
 
 pub returns-in-None-clause-treated : goal.returns-in-None-clause-treated
 returns-in-None-clause-treated c = λ h rows kept e w.
-    closed_made rows kept c.args.row.now.number h c.args.making.now c.args.row.now.left.now c.args.row.now.inverted w
+    closed_made rows kept c.args.row.now.number h c.args.partial.now c.args.row.now.left.now c.args.row.now.inverted w
     (no_terms_one c.args.row.now.left.now (ap first_size (sym c.terms.ensures.terms) ∙ sym c.first_size.ensures ∙ c.in-None.is))
 
 pub returns-in_err-refused-in-Some-clause-range : goal.returns-in_err-refused-in-Some-clause-range
 returns-in_err-refused-in-Some-clause-range c = λ h rows kept e w.
     let p = err_from_is_err_and c.from_residual.result c.from_residual.ensures.1 in
     let r = c.args.row.now.left.now in
-    let m = c.args.making.now in
+    let m = c.args.partial.now in
     let row = c.args.row.now.unit.now in
     let k = c.args.row.now.number in
     let b = c.args.row.now.inverted in
@@ -50,7 +50,7 @@ returns-in_err-refused-in-Some-clause-range c = λ h rows kept e w.
 pub returns-in_ok-refused-in-Some-clause-treated : goal.returns-in_ok-refused-in-Some-clause-treated
 returns-in_ok-refused-in-Some-clause-treated c = λ h rows kept e w.
     let r = c.args.row.now.left.now in
-    let m = c.args.making.now in
+    let m = c.args.partial.now in
     let row = c.args.row.now.unit.now in
     let k = c.args.row.now.number in
     let b = c.args.row.now.inverted in

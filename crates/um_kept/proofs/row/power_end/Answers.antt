@@ -9,7 +9,7 @@ use Rattle.um_units.specs.declared.Term.{Term}
 use Rattle.um_units.specs.PowerMap.{PowerMap, one}
 use Rattle.um_units.proofs.InRange.{fits-power_of}
 use Rattle.um_elim.specs.Pivot.{is_base, has_base}
-use Rattle.um_elim.specs.Turn.{signed}
+use Rattle.um_elim.specs.ElimStep.{signed}
 use Rattle.um_check.specs.Existence.{total}
 use Rattle.um_kept.specs.Steps.{ArePartsAfter, CarriesOneOfParts, CarriesRefusal}
 use Rattle.um_kept.proofs.RowStops.{total_is_row, power_stops, end_stops, power_refused, power_made}
@@ -27,7 +27,7 @@ pub returns-in_err-refused-clause-range : goal.returns-in_err-refused-clause-ran
 returns-in_err-refused-clause-range c = λ h rows kept e w.
     let x = err_from_is_err_and c.from_residual.result c.from_residual.ensures.1 in
     let r = c.args.row.now.left.now in
-    let m = c.args.making.now in
+    let m = c.args.partial.now in
     let row = c.args.row.now.unit.now in
     let k = c.args.row.now.number in
     let b = c.args.row.now.inverted in
@@ -45,7 +45,7 @@ returns-in_err-refused-clause-range c = λ h rows kept e w.
 pub returns-then-has_base_unit-clause-treated : goal.returns-then-has_base_unit-clause-treated
 returns-then-has_base_unit-clause-treated c = λ h rows kept e w.
     let r = c.args.row.now.left.now in
-    let m = c.args.making.now in
+    let m = c.args.partial.now in
     let row = c.args.row.now.unit.now in
     let k = c.args.row.now.number in
     let b = c.args.row.now.inverted in
@@ -71,7 +71,7 @@ pub returns-in_err-end_variable-clause-range : goal.returns-in_err-end_variable-
 returns-in_err-end_variable-clause-range c = λ h rows kept e w.
     let x = err_from_is_err_and c.from_residual-in_err-end_variable.result c.from_residual-in_err-end_variable.ensures.1 in
     let r = c.args.row.now.left.now in
-    let m = c.args.making.now in
+    let m = c.args.partial.now in
     let row = c.args.row.now.unit.now in
     let k = c.args.row.now.number in
     let b = c.args.row.now.inverted in
@@ -86,7 +86,7 @@ returns-in_err-end_variable-clause-range c = λ h rows kept e w.
 pub returns-clause-treated : goal.returns-clause-treated
 returns-clause-treated c = λ h rows kept e w.
     let r = c.args.row.now.left.now in
-    let m = c.args.making.now in
+    let m = c.args.partial.now in
     let row = c.args.row.now.unit.now in
     let k = c.args.row.now.number in
     let b = c.args.row.now.inverted in
