@@ -10,6 +10,8 @@ ghost use Rattle.um_measures.specs.ClosedUnits.{base_unit, first_of_both, given,
 ghost use Rattle.um_measures.specs.Stops.{IsFirst};
 
 use crate::abbreviation::{Abbreviation, Abbreviations};
+use crate::digest::NameDigest;
+use crate::digests::program_digest;
 use crate::measures::Measures;
 use crate::stop::NameStop;
 use crate::table::NameTable;
@@ -18,14 +20,14 @@ use std::alloc::{AllocError, Global};
 use um_tree::{Name, Program, RawUnit, UnitNote};
 use um_units::{Atom, Unit};
 
-/// The base units of these names as measures.
-fn base_measures(alloc: Global, bases: &[Name]) -> Result<Measures, AllocError>
+/// The base units of these names as measures, with the digest of all names that may be added.
+fn base_measures(alloc: Global, digest: NameDigest, bases: &[Name]) -> Result<Measures, AllocError>
     ensures { IfOk result (λ measures. (x : List ℕ) → short_unit measures x ≡ base_unit (number_of bases.now x)) }
 {
     if bases.len() >= u32::MAX as usize {
         return Err(AllocError);
     }
-    let mut measures = Measures::new(alloc);
+    let mut measures = Measures::new(alloc, digest);
     for i in 0..bases.len() {
         measures = with_base(alloc, measures, &bases[i], i as u32)?;
     }
@@ -74,8 +76,8 @@ fn with_abbreviations(
     Ok(measures)
 }
 
-/// The measures of a program and its abbreviations: the base units, and behind them the abbreviations, so that the first
-/// of a name counts.
+/// The measures of a program and its abbreviations: the base units, and behind them the abbreviations, so that the
+/// first of a name counts.
 ///
 /// It takes time for all of them. The one error is that memory is wanting, also where the base units are so many that
 /// no numbers of 32 bits are left for them.
@@ -87,7 +89,8 @@ pub fn measures_of(
     ensures { IfOk result (λ measures. (x : List ℕ)
         → short_unit measures x ≡ measure_unit (given (program_tree program.now) abbreviations.now) x) }
 {
-    let bases = base_measures(alloc, program.bases.as_slice())?;
+    let digest = program_digest(program, abbreviations);
+    let bases = base_measures(alloc, digest, program.bases.as_slice())?;
     with_abbreviations(alloc, bases, abbreviations.as_slice())
 }
 

@@ -8,6 +8,8 @@
 
 mod abbreviation;
 mod closed;
+mod digest;
+mod digests;
 mod measures;
 mod running;
 mod scope;
@@ -19,6 +21,11 @@ mod wildcard;
 
 pub use abbreviation::{Abbreviation, Abbreviations};
 pub use closed::{closed_unit, measures_of};
+pub use digest::NameDigest;
+pub use digests::{
+    declarations_digest, fields_digest, function_digest, names_digest, parameters_digest,
+    program_digest, types_digest,
+};
 pub use measures::Measures;
 pub use scope::{Scope, same_binding};
 pub use stop::NameStop;

@@ -6,6 +6,7 @@ ghost use Rattle.std.specs.Option.{option_copied};
 ghost use Rattle.um_measures.specs.Known.{short_unit};
 
 use crate::abbreviation::Abbreviation;
+use crate::digest::NameDigest;
 use crate::table::NameTable;
 use std::alloc::{AllocError, Global};
 use std::marker::Model;
@@ -36,12 +37,12 @@ impl Model for Measures {
 }
 
 impl Measures {
-    /// No measures. Takes no memory.
-    pub fn new(alloc: Global) -> Measures
+    /// No measures, with the digest of all names that may be added. Takes no memory.
+    pub fn new(alloc: Global, digest: NameDigest) -> Measures
         ensures { result ≡ [] }
     {
         Measures {
-            names: NameTable::new(alloc),
+            names: NameTable::with_digest(alloc, digest),
             units: Vec::new(alloc),
         }
     }
@@ -63,7 +64,8 @@ impl Measures {
         }
     }
 
-    /// These measures and behind them one more, which is hidden where its name is known. Fails for want of memory alone.
+    /// These measures and behind them one more, which is hidden where its name is known. Fails for want of memory
+    /// alone.
     pub fn with(self, alloc: Global, name: &[u8], unit: Unit) -> Result<Measures, AllocError>
         ensures { IfOk result (λ measures. (x : List ℕ)
             → short_unit measures x ≡ short_unit (self ++ record { name = name.now; unit = unit } ∷ []) x) }

@@ -3,14 +3,16 @@
 ghost use Rattle.std.specs.Prelude.{◌≡◌, ◌∷◌, ◌++◌, [], cond, IfOk, OnOk, length};
 ghost use Rattle.um_measures.specs.Known.{is_among, number_of};
 
+use crate::digest::{NameDigest, Places};
 use indexmap::IndexSet;
 use std::alloc::{AllocError, Global};
 use std::marker::Model;
 
-/// Names, each once, in the order in which they came. A name is found in constant time.
+/// Names, each once, in the order in which they came. A name is found in constant time, if the table is made with the
+/// digest of all names that may come into it.
 #[derive(Drop)]
 pub struct NameTable {
-    set: IndexSet<Vec<u8>>,
+    set: IndexSet<Vec<u8>, Places>,
 }
 
 impl Model for NameTable {
@@ -27,12 +29,21 @@ impl Model for NameTable {
 }
 
 impl NameTable {
-    /// No names. Takes no memory.
+    /// No names. Only names that no text decides may be added. Takes no memory.
     pub fn new(alloc: Global) -> NameTable
         ensures { result ≡ [] }
     {
         NameTable {
-            set: IndexSet::new(alloc),
+            set: IndexSet::with_hasher(alloc, Places::fixed()),
+        }
+    }
+
+    /// No names, with the digest of all names that may be added. Takes no memory.
+    pub fn with_digest(alloc: Global, digest: NameDigest) -> NameTable
+        ensures { result ≡ [] }
+    {
+        NameTable {
+            set: IndexSet::with_hasher(alloc, Places::after(digest)),
         }
     }
 

@@ -4,7 +4,8 @@ ghost use Rattle.std.specs.Prelude.{◌≡◌, IfOk, IfErr, map};
 ghost use Rattle.um_units.specs.Range.{RangeUnless};
 ghost use Rattle.um_tree.specs.RawTree.{unit_syntax, units_in_order};
 ghost use Rattle.um_measures.specs.Known.{short_unit};
-ghost use Rattle.um_measures.specs.UnitNames.{first_place, first_of, unknown_in, unknown_among, unit_of, product_of, parts_fit, products_fit, resolved_unit};
+ghost use Rattle.um_measures.specs.UnitNames.{first_place, first_of, unknown_in, unknown_among, unit_of, product_of};
+ghost use Rattle.um_measures.specs.UnitNames.{parts_fit, products_fit, resolved_unit};
 ghost use Rattle.um_measures.specs.Stops.{IsFirst};
 ghost use Rattle.std.specs.Prelude.{Ok};
 ghost use Rattle.um_units.specs.PowerMap.{one};
@@ -240,8 +241,8 @@ fn whole_unit(
 /// The unit of a text where these measures and unit variables are known.
 ///
 /// A measure stands for its unit, and a unit variable for its number. Unknown comes at the first name or variable that
-/// isn't known. Else Range comes at the text's first token where a part, or a prefix of a juxtaposition, has a power out
-/// of range. The rule of measures is the F# specification's, Units Of Measure; the range is this project's own.
+/// isn't known. Else Range comes at the text's first token where a part, or a prefix of a juxtaposition, has a power
+/// out of range. The rule of measures is the F# specification's, Units Of Measure; the range is this project's own.
 pub fn resolved_unit(
     alloc: Global,
     measures: &Measures,

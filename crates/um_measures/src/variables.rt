@@ -2,8 +2,12 @@
 
 ghost use Rattle.std.specs.Prelude.{◌≡◌, [], OnOk, IfOk, map};
 ghost use Rattle.std.specs.List.{flat_map};
-ghost use Rattle.um_tree.specs.RawTree.{unit_syntax, units_in_order, note_syntax, written_note, type_syntax, written_type, expr_syntax, exprs_in_order, field_part, fields_in_order, param_syntax, whole_function_syntax};
-ghost use Rattle.um_measures.specs.Variables.{unit_variables, all_unit_variables, note_variables, number_variables, type_variables, expr_variables, exprs_variables, fields_variables, result_variables, first_occurrences, named_variables};
+ghost use Rattle.um_tree.specs.RawTree.{unit_syntax, units_in_order, note_syntax, written_note, type_syntax};
+ghost use Rattle.um_tree.specs.RawTree.{written_type, expr_syntax, exprs_in_order, field_part, fields_in_order};
+ghost use Rattle.um_tree.specs.RawTree.{param_syntax, whole_function_syntax};
+ghost use Rattle.um_measures.specs.Variables.{unit_variables, all_unit_variables, note_variables, number_variables};
+ghost use Rattle.um_measures.specs.Variables.{type_variables, expr_variables, exprs_variables, fields_variables};
+ghost use Rattle.um_measures.specs.Variables.{result_variables, first_occurrences, named_variables};
 
 use crate::table::NameTable;
 use std::alloc::{AllocError, Global};
@@ -52,7 +56,8 @@ fn in_note(names: &mut NameTable, alloc: Global, raw: &RawNote) -> Result<(), Al
 
 #[tactic(auto, using(crate::proofs::Occurrences::both_occur, crate::proofs::Occurrences::occurrences_append))]
 fn in_notes(names: &mut NameTable, alloc: Global, raw: &[RawNote]) -> Result<(), AllocError>
-    ensures { OnOk result (names.new ≡ first_occurrences names.old (flat_map note_variables (map note_syntax raw.now))) }
+    ensures { OnOk result (names.new ≡ first_occurrences names.old
+        (flat_map note_variables (map note_syntax raw.now))) }
 {
     for note in raw {
         in_note(names, alloc, note)?;
@@ -60,7 +65,8 @@ fn in_notes(names: &mut NameTable, alloc: Global, raw: &[RawNote]) -> Result<(),
     Ok(())
 }
 
-/// Adds the unit variables of a type text behind those that are there, each once, in the order of their first occurrence.
+/// Adds the unit variables of a type text behind those that are there, each once, in the order of their first
+/// occurrence.
 pub fn add_type_variables(
     names: &mut NameTable,
     alloc: Global,
@@ -153,10 +159,10 @@ fn in_params(names: &mut NameTable, alloc: Global, params: &[RawParam]) -> Resul
     Ok(())
 }
 
-/// The named unit variables of a function, in the order of their numbers: its unit parameters, and behind them each other
-/// one that its notes name, once, by its first occurrence in the parameters, the result and the body. A number's unit is
-/// no note of the function. Fails for want of memory alone, or where there are 2^32 - 1 names. Unit parameters of
-/// functions are the F# specification's, Units Of Measure.
+/// The named unit variables of a function, in the order of their numbers: its unit parameters, and behind them each
+/// other one that its notes name, once, by its first occurrence in the parameters, the result and the body. A number's
+/// unit is no note of the function. Fails for want of memory alone, or where there are 2^32 - 1 names. Unit parameters
+/// of functions are the F# specification's, Units Of Measure.
 #[tactic(auto, using(crate::proofs::Occurrences::both_occur))]
 pub fn named_variables(
     alloc: Global,

@@ -9,7 +9,7 @@ ghost use Rattle.um_names.specs.Tables.{AreTables, known_of};
 use crate::known::Tables;
 use std::alloc::{AllocError, Global};
 use std::mem;
-use um_measures::{Abbreviation, Measures};
+use um_measures::{Abbreviation, Measures, NameDigest};
 use um_tree::{Function, Name};
 use um_units::{Atom, Unit};
 
@@ -29,7 +29,7 @@ fn add_measure(
     ensures { OnOk result ((x : List ℕ)
         → short_unit measures.new x ≡ short_unit (measures.old ++ record { name = name.now; unit = unit } ∷ []) x) }
 {
-    let before = mem::replace(measures, Measures::new(alloc));
+    let before = mem::replace(measures, Measures::new(alloc, NameDigest::new()));
     let more = before.with(alloc, name.as_slice(), unit)?;
     drop(mem::replace(measures, more));
     Ok(())

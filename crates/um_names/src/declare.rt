@@ -2,7 +2,8 @@
 
 ghost use Rattle.std.specs.Prelude.{◌≡◌, Ok, IfOk, IfErr, OnOk, map};
 ghost use Rattle.um_tree.specs.ProgramTree.{record_tree, function_tree};
-ghost use Rattle.um_tree.specs.RawTree.{var_syntax, field_decl_syntax, whole_function_syntax, decl_syntax, base_syntax, short_syntax, unit_syntax};
+ghost use Rattle.um_tree.specs.RawTree.{var_syntax, field_decl_syntax, whole_function_syntax, decl_syntax, base_syntax};
+ghost use Rattle.um_tree.specs.RawTree.{short_syntax, unit_syntax};
 ghost use Rattle.um_measures.specs.Known.{is_taken};
 ghost use Rattle.um_names.specs.Parts.{itself};
 ghost use Rattle.um_names.specs.Resolution.{resolved_record_decl, resolved_function, resolved_decl};
@@ -20,7 +21,7 @@ use crate::parts::{result_note, unit_parameters};
 use crate::records::add_record;
 use crate::signature::{Parameters, params};
 use std::alloc::{AllocError, Global};
-use um_measures::{NameStop, NameTable, named_variables};
+use um_measures::{NameStop, NameTable, function_digest, named_variables, parameters_digest};
 use um_tree::{
     FieldDecls, Function, Name, Notes, RawDecl, RawFieldDecl, RawFunction, RawUnit, RawVar, Record,
 };
@@ -51,7 +52,7 @@ fn record_decl(
     if is_taken(tables, name.as_slice()) {
         return Err(NameStop::Twice { at });
     }
-    let variables = unit_parameters(alloc, vars)?;
+    let variables = unit_parameters(alloc, parameters_digest(vars), vars)?;
     let items = field_decls(alloc, tables, &variables, fields)?;
     Ok(Record {
         name: copied(alloc, name)?,
@@ -84,7 +85,7 @@ fn function(alloc: Global, tables: &Tables, raw: &RawFunction) -> Result<Functio
     if tables.function_names.has(raw.name.as_slice()) {
         return Err(NameStop::Twice { at: raw.at });
     }
-    let unit_params = unit_parameters(alloc, &raw.units.items)?;
+    let unit_params = unit_parameters(alloc, function_digest(raw), &raw.units.items)?;
     let units = unit_params.count();
     let variables = named_variables(alloc, unit_params, raw)?;
     let Parameters { notes, mut scope } = params(alloc, tables, &variables, &raw.params.items)?;

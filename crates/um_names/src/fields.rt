@@ -12,7 +12,7 @@ use crate::adding::copied;
 use crate::known::Tables;
 use crate::types::{note, written};
 use std::alloc::Global;
-use um_measures::{NameStop, NameTable};
+use um_measures::{NameStop, NameTable, fields_digest};
 use um_tree::{FieldDecl, RawFieldDecl};
 
 /// A field, whose name is new among all fields and among those of its own record.
@@ -54,7 +54,7 @@ pub fn field_decls(
     ensures faults { IfErr result (IsFirst (resolved_field_decls (known_of tables.now) variables.now []
         (map field_decl_syntax raw.now))) }
 {
-    let mut own = NameTable::new(alloc);
+    let mut own = NameTable::with_digest(alloc, fields_digest(raw));
     let mut fields = Vec::new(alloc);
     for text in raw {
         fields.push(field_decl(alloc, tables, variables, &own, text)?)?;

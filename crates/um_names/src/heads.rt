@@ -12,16 +12,16 @@ use crate::adding::{copied, with_base, with_short};
 use crate::known::Tables;
 use crate::records::with_record;
 use std::alloc::{AllocError, Global};
-use um_measures::{Abbreviation, Abbreviations};
+use um_measures::{Abbreviation, Abbreviations, NameDigest, program_digest};
 use um_tree::{FieldDecls, Name, Program, Record};
 
-/// The tables of base units.
-fn base_tables(alloc: Global, names: &[Name]) -> Result<Tables, AllocError>
+/// The tables of base units, with the digest of all names that may be declared.
+fn base_tables(alloc: Global, digest: NameDigest, names: &[Name]) -> Result<Tables, AllocError>
     requires once { AreDistinct names.now }
     ensures tables { IfOk result AreTables }
     ensures known { IfOk result (λ t. known_of t ≡ only_bases names.now) }
 {
-    let mut tables = Tables::new(alloc);
+    let mut tables = Tables::new(alloc, digest);
     for i in 0..names.len() {
         tables = with_base(alloc, tables, &names[i])?;
     }
@@ -111,7 +111,8 @@ pub fn heads(
     ensures tables { IfOk result AreTables }
     ensures known { IfOk result (λ t. known_of t ≡ heads (program_tree program.now) abbreviations.now) }
 {
-    let bases = base_tables(alloc, program.bases.as_slice())?;
+    let digest = program_digest(program, abbreviations);
+    let bases = base_tables(alloc, digest, program.bases.as_slice())?;
     let measures = with_shorts(alloc, bases, abbreviations.as_slice())?;
     with_heads(alloc, measures, &program.records.items)
 }

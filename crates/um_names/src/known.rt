@@ -16,7 +16,9 @@ ghost use Rattle.um_names.specs.ExprNames.{field_of, callable_of, same_names, if
 
 use crate::callable::{Callable, FieldNumber, counted};
 use std::alloc::{AllocError, Global};
-use um_measures::{Abbreviation, Measures, NameStop, NameTable, first_unknown, resolved_unit};
+use um_measures::{
+    Abbreviation, Measures, NameDigest, NameStop, NameTable, first_unknown, resolved_unit,
+};
 use um_tree::{FieldDecl, Function, Name, RawField, RawUnit, Record};
 use um_units::Unit;
 
@@ -35,20 +37,20 @@ pub struct Tables {
 }
 
 impl Tables {
-    /// Before any declaration.
-    pub fn new(alloc: Global) -> Tables
+    /// Before any declaration, with the digest of all names that may be declared.
+    pub fn new(alloc: Global, digest: NameDigest) -> Tables
         ensures tables { AreTables result }
         ensures known { known_of result ≡ nothing }
     {
         Tables {
-            measures: Measures::new(alloc),
+            measures: Measures::new(alloc, digest),
             bases: Vec::new(alloc),
             shorts: Vec::new(alloc),
-            record_names: NameTable::new(alloc),
+            record_names: NameTable::with_digest(alloc, digest),
             records: Vec::new(alloc),
-            fields: NameTable::new(alloc),
+            fields: NameTable::with_digest(alloc, digest),
             field_numbers: Vec::new(alloc),
-            function_names: NameTable::new(alloc),
+            function_names: NameTable::with_digest(alloc, digest),
             functions: Vec::new(alloc),
         }
     }

@@ -2,11 +2,13 @@
 
 ghost use Rattle.std.specs.Prelude.{◌≡◌, Ok, IfOk, IfErr, map};
 ghost use Rattle.um_tree.specs.ExprTree.{expr_tree};
-ghost use Rattle.um_tree.specs.RawTree.{written_note, type_syntax, expr_syntax, exprs_in_order, field_part, fields_in_order};
+ghost use Rattle.um_tree.specs.RawTree.{written_note, type_syntax, expr_syntax, exprs_in_order, field_part};
+ghost use Rattle.um_tree.specs.RawTree.{fields_in_order};
 ghost use Rattle.um_measures.specs.Scopes.{same_binding, local_of};
 ghost use Rattle.um_measures.specs.Faults.{unless_taken};
 ghost use Rattle.um_measures.specs.Stops.{IsFirst};
-ghost use Rattle.um_names.specs.ExprNames.{resolved_literal, resolved_nil, resolved_fields, known_fields, found_field, field_of, length_of, named, called};
+ghost use Rattle.um_names.specs.ExprNames.{resolved_literal, resolved_nil, resolved_fields, known_fields, found_field};
+ghost use Rattle.um_names.specs.ExprNames.{field_of, length_of, named, called};
 ghost use Rattle.um_names.specs.Bodies.{callables_of};
 ghost use Rattle.um_names.specs.Tables.{AreTables, known_of};
 
@@ -116,7 +118,8 @@ pub(crate) fn accessed(tables: &Tables, name: &Name, place: u32) -> Result<Field
 
 /// Head and tail have two names.
 pub(crate) fn distinct(head: &Binder, tail: &Binder) -> Result<(), NameStop>
-    ensures exact { IfOk result (λ done. unless_taken (same_binding head.now.name tail.now.name) tail.now.at ≡ Ok done) }
+    ensures exact { IfOk result (λ done. unless_taken (same_binding head.now.name tail.now.name) tail.now.at
+        ≡ Ok done) }
     ensures faults { IfErr result (IsFirst (unless_taken (same_binding head.now.name tail.now.name) tail.now.at)) }
 {
     if same_binding(head, tail) {

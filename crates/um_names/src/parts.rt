@@ -13,15 +13,20 @@ ghost use Rattle.um_names.specs.Tables.{AreTables, known_of};
 use crate::known::Tables;
 use crate::types::note;
 use std::alloc::Global;
-use um_measures::{NameStop, NameTable, Scope};
+use um_measures::{NameDigest, NameStop, NameTable, Scope};
 use um_tree::{Note, RawParam, RawType, RawVar};
 
-/// The unit parameters of a record or a function, each once, in the order of their numbers.
-pub fn unit_parameters(alloc: Global, raw: &[RawVar]) -> Result<NameTable, NameStop>
+/// The unit parameters of a record or a function, each once, in the order of their numbers, in a table with the digest
+/// of all names that may come into it.
+pub fn unit_parameters(
+    alloc: Global,
+    digest: NameDigest,
+    raw: &[RawVar],
+) -> Result<NameTable, NameStop>
     ensures exact { IfOk result (λ names. resolved_parameters [] (map var_syntax raw.now) ≡ Ok names) }
     ensures faults { IfErr result (IsFirst (resolved_parameters [] (map var_syntax raw.now))) }
 {
-    let mut names = NameTable::new(alloc);
+    let mut names = NameTable::with_digest(alloc, digest);
     for var in raw {
         if names.has(var.name.as_slice()) {
             return Err(NameStop::Twice { at: var.at });
@@ -63,7 +68,8 @@ pub fn result_note(
     requires { AreTables tables.now }
     ensures exact { IfOk result (λ n. resolved_result (known_of tables.now) variables.now (written_type raw.now)
         ≡ Ok (result_tree n)) }
-    ensures faults { IfErr result (IsFirst (resolved_result (known_of tables.now) variables.now (written_type raw.now))) }
+    ensures faults { IfErr result (IsFirst (resolved_result (known_of tables.now) variables.now
+        (written_type raw.now))) }
 {
     match raw {
         None => Ok(None),

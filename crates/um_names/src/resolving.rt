@@ -13,7 +13,7 @@ ghost use Rattle.um_names.specs.Tables.{AreTables, known_of};
 use crate::declare::declare;
 use crate::known::Tables;
 use std::alloc::{AllocError, Global};
-use um_measures::{Abbreviations, NameStop};
+use um_measures::{Abbreviations, NameStop, declarations_digest};
 use um_tree::{Functions, Names, Program, RawDecl, RawProgram, Records};
 
 /// Takes these declarations into the tables, one after another.
@@ -34,7 +34,7 @@ fn declarations(alloc: Global, raw: &[RawDecl]) -> Result<Tables, NameStop>
     ensures exact { IfOk result (λ t. resolution (map decl_syntax raw.now) ≡ Ok (known_of t)) }
     ensures faults { IfErr result (IsFirst (resolution (map decl_syntax raw.now))) }
 {
-    let mut tables = Tables::new(alloc);
+    let mut tables = Tables::new(alloc, declarations_digest(raw));
     match declare_all(alloc, &mut tables, raw) {
         Ok(()) => Ok(tables),
         Err(stop) => {

@@ -7,7 +7,9 @@ ghost use Rattle.um_tree.specs.ProgramTree.{program_tree};
 ghost use Rattle.um_tree.specs.RawTree.{note_syntax, written_note, type_syntax, type_syntaxes};
 ghost use Rattle.um_tree.specs.TypeTree.{type_tree, type_trees};
 ghost use Rattle.um_measures.specs.ClosedUnits.{given};
-ghost use Rattle.um_names.specs.SignatureNames.{SignatureTypes, note_names, all_note_names, number_names, type_names, all_type_names, one_type, resolved_types, signature_variables, resolved_signature};
+ghost use Rattle.um_names.specs.SignatureNames.{SignatureTypes, note_names, all_note_names, number_names, type_names};
+ghost use Rattle.um_names.specs.SignatureNames.{all_type_names, one_type, resolved_types, signature_variables};
+ghost use Rattle.um_names.specs.SignatureNames.{resolved_signature};
 ghost use Rattle.um_measures.specs.declared.stop.NameStop.TheVariants.{Twice};
 ghost use Rattle.um_measures.specs.Stops.{IsFirst};
 ghost use Rattle.um_names.specs.Tables.{AreTables, known_of};
@@ -16,13 +18,14 @@ use crate::heads::heads;
 use crate::known::Tables;
 use crate::types::{note, written};
 use std::alloc::{AllocError, Global};
-use um_measures::{Abbreviations, NameStop, NameTable, add_type_variables};
+use um_measures::{Abbreviations, NameStop, NameTable, add_type_variables, types_digest};
 use um_tree::{Program, RawNote, RawType, RawTypes, Ty, Types};
 
 /// The first fault of what stands between `<` and `>` besides a range.
 fn note_names(tables: &Tables, variables: &NameTable, raw: &RawNote) -> Result<(), NameStop>
     requires { AreTables tables.now }
-    ensures exact { IfOk result (λ done. note_names (known_of tables.now) variables.now (note_syntax raw.now) ≡ Ok done) }
+    ensures exact { IfOk result (λ done. note_names (known_of tables.now) variables.now (note_syntax raw.now)
+        ≡ Ok done) }
     ensures faults { IfErr result (IsFirst (note_names (known_of tables.now) variables.now (note_syntax raw.now))) }
 {
     match raw {
@@ -51,7 +54,8 @@ fn all_note_names(tables: &Tables, variables: &NameTable, raw: &[RawNote]) -> Re
 /// The first fault of a type text besides a range.
 fn type_names(tables: &Tables, variables: &NameTable, raw: &RawType) -> Result<(), NameStop>
     requires { AreTables tables.now }
-    ensures exact { IfOk result (λ done. type_names (known_of tables.now) variables.now (type_syntax raw.now) ≡ Ok done) }
+    ensures exact { IfOk result (λ done. type_names (known_of tables.now) variables.now (type_syntax raw.now)
+        ≡ Ok done) }
     ensures faults { IfErr result (IsFirst (type_names (known_of tables.now) variables.now (type_syntax raw.now))) }
 {
     match raw {
@@ -84,7 +88,7 @@ fn all_type_names(tables: &Tables, variables: &NameTable, raw: &[RawType]) -> Re
 fn signature_variables(alloc: Global, raw: &[RawType]) -> Result<NameTable, AllocError>
     ensures { IfOk result (λ names. names ≡ signature_variables (map type_syntax raw.now)) }
 {
-    let mut names = NameTable::new(alloc);
+    let mut names = NameTable::with_digest(alloc, types_digest(raw));
     for ty in raw {
         add_type_variables(&mut names, alloc, ty)?;
     }

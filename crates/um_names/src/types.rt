@@ -5,7 +5,8 @@ ghost use Rattle.um_tree.specs.TypeTree.{note_tree, type_tree};
 ghost use Rattle.um_tree.specs.RawTree.{note_syntax, written_note, type_syntax};
 ghost use Rattle.um_measures.specs.Stops.{IsFirst};
 ghost use Rattle.um_names.specs.Tables.{AreTables, known_of};
-ghost use Rattle.um_names.specs.TypeNames.{hole_note, resolved_note, resolved_notes, resolved_number, resolved_type, written_unit, written_units, written_type};
+ghost use Rattle.um_names.specs.TypeNames.{hole_note, resolved_note, resolved_notes, resolved_number, resolved_type};
+ghost use Rattle.um_names.specs.TypeNames.{written_unit, written_units, written_type};
 
 use crate::known::Tables;
 use std::alloc::{AllocError, Global};

@@ -10,7 +10,7 @@ ghost use Rattle.um_sizes.specs.Setting.{size_set, sizes_set};
 use crate::cut::cut;
 use crate::part::size_in;
 use std::alloc::{AllocError, Global};
-use um_measures::NameTable;
+use um_measures::{NameTable, names_digest};
 use um_scale::Scales;
 use um_tree::{Name, Program};
 
@@ -45,8 +45,10 @@ pub fn read_scales(alloc: Global, word: &str, program: &Program) -> Result<Scale
     requires formed { IsFormed (program_tree program.now) }
     ensures { AreScalesRead (program_tree program.now).bases word.now result }
 {
-    let mut bases = NameTable::new(alloc);
-    let answer = read_beside(alloc, word, program.bases.as_slice(), &mut bases);
+    let names = program.bases.as_slice();
+    let digest = names_digest(names);
+    let mut bases = NameTable::with_digest(alloc, digest);
+    let answer = read_beside(alloc, word, names, &mut bases);
     drop(bases);
     answer
 }

@@ -7,7 +7,7 @@ ghost use Rattle.um_sizes.specs.Adding.{name_after, names_after};
 use crate::cut::cut;
 use crate::part::size_in;
 use std::alloc::{AllocError, Global};
-use um_measures::NameTable;
+use um_measures::{NameDigest, NameTable};
 
 /// Whether the word states sizes of base units: `NAME=NUMBER`, and more of these after commas, without spaces.
 ///
@@ -16,7 +16,9 @@ use um_measures::NameTable;
 pub fn is_scales(alloc: Global, word: &str) -> Result<bool, AllocError>
     ensures { IfOk result (λ b. b ≡ is_scales word.now) }
 {
-    let mut names = NameTable::new(alloc);
+    let mut digest = NameDigest::new();
+    digest.add(word.as_bytes());
+    let mut names = NameTable::with_digest(alloc, digest);
     let answer = add_sizes(alloc, word, &mut names);
     drop(names);
     answer

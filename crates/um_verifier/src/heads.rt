@@ -15,7 +15,7 @@ ghost use Rattle.um_verifier.specs.Refusals.{IsRefusal};
 use crate::VerifyStop;
 use crate::flat::FlatShape;
 use crate::known::{Known, KnownHead};
-use crate::names::take_name;
+use crate::names::{heads_digest, take_name};
 use crate::records::known_records;
 use std::alloc::{AllocError, Global};
 use um_machine::Entry;
@@ -99,8 +99,8 @@ fn add_heads(alloc: Global, mut known: Known, image: &Image) -> Result<Known, Ve
     requires records { AreKnownRecords (image_tree image.now).records known }
     ensures { MatchResult result (AreKnownHeads (image_tree image.now)) (IsRefusal (image_tree image.now)) }
 {
-    let mut names = NameTable::new(alloc);
     let heads: &[Head] = &image.heads.items;
+    let mut names = NameTable::with_digest(alloc, heads_digest(heads));
     let entries = image.code.entries.as_slice();
     for k in 0..heads.len() {
         match checked_head(alloc, &known, &mut names, &heads[k], entries[k])? {

@@ -7,8 +7,9 @@ ghost use Rattle.um_verifier.specs.Names.{goes_on, reads, no_names, is_one_of, T
 
 use std::alloc::{AllocError, Global};
 use std::str;
-use um_measures::NameTable;
-use um_tree::{FieldDecl, Name};
+use um_measures::{NameDigest, NameTable};
+use um_tree::{FieldDecl, Name, Record};
+use um_verify::Head;
 use unicode_ident::{is_xid_continue, is_xid_start};
 
 /// Whether an identifier goes on with the character, if it has some before it.
@@ -78,6 +79,31 @@ pub(crate) fn is_name(bytes: &[u8]) -> bool
         Ok(text) => is_name_text(text),
         Err(_) => false,
     }
+}
+
+/// The digest of the names of records and of their fields.
+pub(crate) fn records_digest(declared: &[Record]) -> NameDigest {
+    let mut digest = NameDigest::new();
+    for record in declared {
+        digest.add(record.name.as_slice());
+        add_fields(&mut digest, &record.fields.items);
+    }
+    digest
+}
+
+fn add_fields(digest: &mut NameDigest, fields: &[FieldDecl]) {
+    for field in fields {
+        digest.add(field.name.as_slice());
+    }
+}
+
+/// The digest of the names of functions.
+pub(crate) fn heads_digest(heads: &[Head]) -> NameDigest {
+    let mut digest = NameDigest::new();
+    for head in heads {
+        digest.add(head.name.as_slice());
+    }
+    digest
 }
 
 /// Takes a name, if it is one and isn't taken.

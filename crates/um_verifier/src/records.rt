@@ -18,7 +18,7 @@ ghost use Rattle.um_verifier.specs.KnownHeads.{TakesRecords, IsKnownRecord, Find
 use crate::VerifyStop;
 use crate::flat::FlatShape;
 use crate::known::{Known, KnownRecord};
-use crate::names::{take_field_names, take_name};
+use crate::names::{records_digest, take_field_names, take_name};
 use std::alloc::{AllocError, Global};
 use um_measures::NameTable;
 use um_tree::{FieldDecl, Record};
@@ -98,8 +98,9 @@ pub(crate) fn known_records(alloc: Global, declared: &[Record]) -> Result<Known,
     ensures { MatchResult result (λ known. AreKnownRecords (map record_tree declared.now) known)
         (λ stop. IsRecordStop (map record_tree declared.now) stop) }
 {
-    let mut names = NameTable::new(alloc);
-    let mut field_names = NameTable::new(alloc);
+    let digest = records_digest(declared);
+    let mut names = NameTable::with_digest(alloc, digest);
+    let mut field_names = NameTable::with_digest(alloc, digest);
     let mut known = Known {
         records: Vec::new(alloc),
         heads: Vec::new(alloc),

@@ -8,7 +8,7 @@ use Rattle.um_measures.proofs.Occurrences.{occur_next}
 use Rattle.um_names.proofs.signatures.signature_variables.Goals as goal
 
 pub loop-ty-init : goal.loop-ty-init
-loop-ty-init c = ap (λ (ns : List (List ℕ)). first_occurrences ns (flat_map type_variables (map type_syntax c.args.raw.now))) (sym c.new-names.ensures)
+loop-ty-init c = ap (λ (ns : List (List ℕ)). first_occurrences ns (flat_map type_variables (map type_syntax c.args.raw.now))) (sym c.with_digest-names.ensures)
 
 pub loop-ty-preserved : goal.loop-ty-preserved
 loop-ty-preserved c =

@@ -9,5 +9,5 @@ use Rattle.um_sizes.proofs.word.is_scales.Goals as goal
 pub returns : goal.returns
 returns c =
     IfOk-weaker c.add_sizes-answer.result _ _
-    (λ b h. h ∙ ap (λ names. is_some (names_after names (parts_of c.args.word.now))) c.new-names.ensures ∙ all_added c.args.word.now)
+    (λ b h. h ∙ ap (λ names. is_some (names_after names (parts_of c.args.word.now))) c.with_digest-names.ensures ∙ all_added c.args.word.now)
     c.add_sizes-answer.ensures
