@@ -1,4 +1,5 @@
--- Traces and frames: which traces of an expression are those of the node around it, and what becomes of a trace outside.
+-- Traces and frames: which traces of an expression are those of the node around it, and what becomes of a trace
+-- outside.
 -- Source: this project's own.
 use Rattle.std.specs.Prelude.{ℕ, ◌≡◌, ◌⊎◌, true, false, List, [], ◌∷◌, ◌++◌}
 use Rattle.um_frac.specs.declared.number.Frac.{Frac}

@@ -3,8 +3,8 @@
 use Rattle.std.specs.Prelude.{ℕ, ◌≡◌, ◌≤◌, ◌⊎◌, List, [], ◌++◌, length, codes}
 use Rattle.um_lines.specs.Sources.{program_in, calls_of, call_lines}
 
--- The bytes are a text, a line that is `---` alone, and calls. The line begins where the text is empty or ends with a line
--- feed; it ends with a line feed, with a carriage return and a line feed, or with the bytes.
+-- The bytes are a text, a line that is `---` alone, and calls. The line begins where the text is empty or ends with a
+-- line feed; it ends with a line feed, with a carriage return and a line feed, or with the bytes.
 pub record AreCut (bytes text calls : List ℕ) : Type 0 where
   pub end : List ℕ
   pub whole : bytes ≡ text ++ codes "---" ++ end ++ calls

@@ -4,11 +4,11 @@ ghost use Rattle.um_lines.specs.Sources.{call_lines, without_return};
 
 use crate::cut::cut_line;
 
-/// The first line of calls, without its line feed and one carriage return before that, and what stands after it. Nothing
-/// if there is no line.
+/// The first line of calls, without its line feed and one carriage return before that, and what stands after it.
+/// Nothing if there is no line.
 ///
-/// A line ends at a line feed or at the end; nothing stands after the last line feed of whole lines. It takes time linear
-/// in the line, and no memory.
+/// A line ends at a line feed or at the end; nothing stands after the last line feed of whole lines. It takes time
+/// linear in the line, and no memory.
 pub fn next_line(calls: &[u8]) -> Option<(&[u8], &[u8])>
     ensures lines { MatchOption result (call_lines calls.now ≡ [])
         (λ parts. call_lines calls.now ≡ parts.0.now ∷ call_lines parts.1.now) }

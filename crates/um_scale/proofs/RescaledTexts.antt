@@ -1,58 +1,24 @@
 -- Texts with the numbers of a rescaled program.
-use Rattle.std.proofs.Common.{◌≡◌, refl, sym, ap, subst, ◌∙◌, ℕ, zero, suc, ◌+◌, ◌<◌, ◌≤◌, Bool, true, false, cond, ◌==◌, ◌&&◌, nat_eq, List, [], ◌∷◌, ◌++◌, length, get_or, drop, set, replicate, Option, Some, None, slice_get, arith}
+use Rattle.std.proofs.Common.{◌≡◌, refl, sym, ap, subst, ◌∙◌, ℕ, zero, suc, ◌+◌, ◌<◌, ◌≤◌, Bool, true, false, cond, ◌&&◌, nat_eq, List, [], ◌∷◌, ◌++◌, length, get_or, drop, set, replicate, Option, Some, None, slice_get, arith}
 use Rattle.std.specs.Prelude.{slice_range}
 use Rattle.std.specs.Option.{option_or}
-use Rattle.std.specs.Char.{len_utf8}
-use Rattle.std.specs.Str.{chars, IsUtf8}
+use Rattle.std.specs.Str.{chars}
 use Rattle.std.proofs.lemmas.Bool.{eqb-true, eqb-false}
 use Rattle.std.proofs.lemmas.List.{append_assoc, drop_all, drop_more, get_or-replicate, get_or-set_other, length-replicate, length-set}
 use Rattle.std.proofs.lemmas.Grind.{get_or-set_at}
 use Rattle.um_frac.specs.declared.number.Frac.{Frac}
 use Rattle.um_syntax.specs.declared.token.Token.{Token}
-use Rattle.um_syntax.specs.Laws.{laid_out, LieAt}
-use Rattle.um_syntax.specs.Lexing.{size_of, body, body_place, HasTokens}
-use Rattle.um_syntax.proofs.Places.{size_of-append, size_of-chars}
-use Rattle.um_syntax.proofs.Whole.{tokens_make_up, unique_tokens}
+use Rattle.um_syntax.specs.Order.{AreInOrder}
+use Rattle.um_syntax.proofs.Whole.{unique_tokens}
 use Rattle.um_tree.specs.ProgramTree.{ProgramTree}
 use Rattle.um_scale.specs.RescaledText.{literals_of, literal_at, is_number, opens_unit, printed, spelling, respelled, IsRescaledText}
-use Rattle.um_scale.specs.Spelling.{AreInOrder, by_place, number_at}
+use Rattle.um_scale.specs.Spelling.{by_place, number_at}
 
 -- ---- a text with its numbers is unique
 pub texts_are_unique : (bytes : List ℕ) (q : ProgramTree) (a b : List ℕ) → IsRescaledText bytes q a → IsRescaledText bytes q b → a ≡ b
 texts_are_unique bytes q a b h g =
     let same = unique_tokens (chars bytes) h.0 g.0 h.1 g.1 in
     h.2 ∙ ap (respelled bytes (literal_at (literals_of q.functions)) 0) same ∙ sym g.2
-
--- ---- the tokens of a text lie in it one behind another
-in_order_from : (pieces : List (List ℕ × List ℕ)) (last : List ℕ) (tokens : List Token) (from at len : ℕ) → from ≤ at → at + size_of (laid_out pieces last) ≤ len → LieAt at pieces tokens → AreInOrder from tokens len
-in_order_from [] last [] from at len h g lie = omega (arith, h, g)
-in_order_from [] last (t ∷ ts) from at len h g lie = absurd lie
-in_order_from (p ∷ ps) last [] from at len h g lie = absurd lie
-in_order_from (p ∷ ps) last (t ∷ ts) from at len h g lie =
-    let sizes = size_of-append p.0 (p.1 ++ laid_out ps last) in
-    let others = size_of-append p.1 (laid_out ps last) in
-    let start = lie.1 in
-    let end = lie.2 in
-    (omega (arith, h, start), omega (arith, end), omega (arith, g, sizes, others, start, end), in_order_from ps last ts t.end t.end len (omega arith) (omega (arith, g, sizes, others, start, end)) lie.3)
-
-mark_size : len_utf8 65279 ≡ 3
-mark_size = refl
-
--- the byte order mark takes what the body leaves out
-body_size : (cs : List ℕ) → body_place cs + size_of (body cs) ≡ size_of cs
-body_size [] = refl
-body_size (c ∷ cs) = marked (c == 65279) refl
-  where
-    marked : (b : Bool) → (c == 65279) ≡ b → cond b 3 0 + size_of (cond b cs (c ∷ cs)) ≡ size_of (c ∷ cs)
-    marked true e = let wide : len_utf8 c ≡ 3 = ap len_utf8 (eqb-true c 65279 e) ∙ mark_size in omega (arith, wide)
-    marked false e = omega arith
-
-pub tokens_in_order : (text : List ℕ) (tokens : List Token) → IsUtf8 text → HasTokens (chars text) tokens → AreInOrder 0 tokens (length text)
-tokens_in_order text tokens utf8 lexed =
-    let cs = chars text in
-    let laid = tokens_make_up cs tokens lexed in
-    let fits : body_place cs + size_of (laid_out laid.0 laid.1) ≡ length text = ap (λ xs. body_place cs + size_of xs) (sym laid.2) ∙ body_size cs ∙ size_of-chars text utf8 in
-    in_order_from laid.0 laid.1 tokens 0 (body_place cs) (length text) (omega arith) (omega (arith, fits)) laid.4
 
 -- ---- the table of numbers
 length-by_place : (table : List (Option Frac)) (ls : List (ℕ × Frac)) → length (by_place table ls) ≡ length table

@@ -1,14 +1,7 @@
--- The code's: tokens that follow one another, and a table of numbers by their places. No public clause rests on it.
+-- The code's: a table of numbers by their places. No public clause rests on it.
 -- Source: this project's own.
-use Rattle.std.specs.Prelude.{ℕ, ◌≤◌, List, [], ◌∷◌, get_or, set, Option, Some, None}
+use Rattle.std.specs.Prelude.{ℕ, List, [], ◌∷◌, get_or, set, Option, Some, None}
 use Rattle.um_frac.specs.declared.number.Frac.{Frac}
-use Rattle.um_syntax.specs.declared.token.Token.{Token}
-
--- each token begins after the one before it, and ends within the text
-abbrev pub AreInOrder : ℕ → List Token → ℕ → Type 0
-AreInOrder from [] len = from ≤ len
-AreInOrder from (token ∷ tokens) len =
-    (from ≤ token.start) × (token.start ≤ token.end) × (token.end ≤ len) × AreInOrder token.end tokens len
 
 -- the table with each number at its place, the first if two have one place
 abbrev pub by_place : List (Option Frac) → List (ℕ × Frac) → List (Option Frac)

@@ -3,10 +3,11 @@ ghost use Rattle.std.specs.Prelude.{◌≡◌, ◌+◌, ◌++◌, ◌≤◌, ◌
 ghost use Rattle.std.specs.Str.{chars};
 ghost use Rattle.um_syntax.specs.declared.token.Token.{Token};
 ghost use Rattle.um_syntax.specs.Lexing.{HasTokens};
+ghost use Rattle.um_syntax.specs.Order.{AreInOrder};
 ghost use Rattle.um_tree.specs.ProgramTree.{function_tree, program_tree};
 ghost use Rattle.um_scale.specs.RescaledText.{literals_of, literal_at, is_number, is_less, opens_unit, new_number};
 ghost use Rattle.um_scale.specs.RescaledText.{spelling, respelled, IsRescaledText};
-ghost use Rattle.um_scale.specs.Spelling.{AreInOrder, number_at};
+ghost use Rattle.um_scale.specs.Spelling.{number_at};
 
 use crate::placed::numbers_by_place;
 use crate::respelling::Respelling;

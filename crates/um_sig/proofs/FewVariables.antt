@@ -1,15 +1,13 @@
 -- A signature text has no more unit variables than characters: each time that one stands in it is a token, and each token has
 -- a character of its own.
-use Rattle.std.proofs.Common.{◌≡◌, ℕ, ◌+◌, ◌≤◌, Bool, true, false, cond, ◌==◌, inl, inr, Option, Some, None, ℤ, List, [], ◌∷◌, ◌++◌, length, length-append, ap, arith, Ok, Err}
+use Rattle.std.proofs.Common.{◌≡◌, ℕ, ◌+◌, ◌≤◌, true, inl, inr, Option, Some, None, ℤ, List, [], ◌∷◌, ◌++◌, length, length-append, ap, arith, Ok, Err}
 use Rattle.std.specs.Prelude.{Result, IfOk}
 use Rattle.std.specs.List.{flat_map}
 use Rattle.std.specs.Str.{chars, IsUtf8}
-use Rattle.std.proofs.lemmas.Str.{encodes-chars, length-le-encodes}
 use Rattle.um_syntax.specs.declared.token.Token.{Token}
 use Rattle.um_syntax.specs.declared.token.Kind.{Kind}
-use Rattle.um_syntax.specs.Lexeme.{text_of}
-use Rattle.um_syntax.specs.Lexing.{IsNext, Lexes, HasTokens, body, body_place}
-use Rattle.um_syntax.proofs.Texts.{head_of}
+use Rattle.um_syntax.specs.Lexing.{HasTokens}
+use Rattle.um_syntax.proofs.TokenCounts.{tokens_within_bytes}
 use Rattle.um_tree.specs.TypeTree.{TypeTree}
 use Rattle.um_tree.specs.RawTree.{UnitSyntax, UnitSyntaxes, one_syntax, measure_syntax, variable_syntax, power_syntax, side_syntax, times_syntax, over_syntax, inverse_syntax, bracket_syntax, no_units, more_units}
 use Rattle.um_tree.specs.RawTree.{NoteSyntax, hole_syntax, unit_note_syntax, TypeSyntax, bool_syntax, num_syntax, record_syntax, list_type_syntax, bracket_type_syntax}
@@ -192,44 +190,11 @@ few_of known texts tokens s is e =
     let all = types_count texts tokens [] is.spelled in
     omega (arith, vars, once, all)
 
--- ---- a text has no more tokens than characters, and no more characters than bytes
-next_within : (before : List Token) (at : ℕ) (cs : List ℕ) (token : Token) (more : List ℕ) → IsNext before at cs token more → length more + 1 ≤ length cs
-next_within before at cs token more n =
-    let h = head_of n.lexeme n.fits in
-    let head : length (text_of n.lexeme) ≡ length (h.0 ∷ h.1) = ap length h.2 in
-    let cut : length cs ≡ length (n.gap ++ (text_of n.lexeme ++ more)) = ap length n.cut in
-    let behind_gap = length-append n.gap (text_of n.lexeme ++ more) in
-    let behind_text = length-append (text_of n.lexeme) more in
-    omega (arith, head, cut, behind_gap, behind_text)
-
-lexes_within : (tokens before : List Token) (at : ℕ) (cs : List ℕ) → Lexes before at cs tokens → length tokens ≤ length cs
-lexes_within [] before at cs l = omega arith
-lexes_within (t ∷ ts) before at cs l =
-    let one = next_within before at cs t l.0 l.1 in
-    let others = lexes_within ts (before ++ t ∷ []) t.end l.0 l.2 in
-    omega (arith, one, others)
-
-body_within : (cs : List ℕ) → length (body cs) ≤ length cs
-body_within [] = omega arith
-body_within (c ∷ cs) = marked (c == 65279)
-  where
-    marked : (b : Bool) → length (cond b cs (c ∷ cs)) ≤ length (c ∷ cs)
-    marked true = omega arith
-    marked false = omega arith
-
-tokens_within : (text : List ℕ) (tokens : List Token) → IsUtf8 text → HasTokens (chars text) tokens → length tokens ≤ length text
-tokens_within text tokens utf8 lexed =
-    let few = lexes_within tokens [] (body_place (chars text)) (body (chars text)) lexed in
-    let whole = body_within (chars text) in
-    let short = length-le-encodes (chars text) in
-    let same = ap length (encodes-chars text utf8) in
-    omega (arith, few, whole, short, same)
-
 -- so what is read has few variables
 pub named_few : (known : Known) (texts : List TypeSyntax) (text : List ℕ) (tokens : List Token) (r : Result Signature SigText) → IsUtf8 text → length text ≤ 1048576 → HasTokens (chars text) tokens → IsSignature tokens texts →
     IsNamed (resolved_signature known texts) r → IfOk r (λ s. s.vars ≤ 1048576)
 named_few known texts text tokens (Ok s) utf8 short lexed is named =
     let few = few_of known texts tokens (signature_types_of s) is named in
-    let within = tokens_within text tokens utf8 lexed in
+    let within = tokens_within_bytes text tokens utf8 lexed in
     omega (arith, few, within, short)
 named_few known texts text tokens (Err e) utf8 short lexed is named = tt

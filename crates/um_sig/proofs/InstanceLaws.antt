@@ -5,7 +5,7 @@ use Rattle.std.specs.Prelude.{All, Result, Ok, Err}
 use Rattle.std.proofs.lemmas.List.{take-map}
 use Rattle.um_units.specs.PowerMap.{PowerMap, nth}
 use Rattle.um_units.specs.Solutions.{IsSolvable}
-use Rattle.um_units.proofs.Solutions.{IsInstance_refl}
+use Rattle.um_units.proofs.Solutions.{IsSubstitutionInstance_refl}
 use Rattle.um_tree.specs.TypeTree.{TypeTree}
 use Rattle.um_tree.specs.ProgramTree.{SchemeTree}
 use Rattle.um_tree.specs.Typing.{put, moved, parameter_unit}
@@ -58,7 +58,7 @@ module _ (bases : ℕ) (own types : List TypeTree) where
     pub fixed_from_matched : (us : List PowerMap) → match_types bases vars own types ≡ matched us → IsInstanceOf own (map (fixed_type bases) types)
     fixed_from_matched us e =
         let exact = right (matched us) e in
-        let joint = (exact us).0 (IsInstance_refl us) in
+        let joint = (exact us).0 (IsSubstitutionInstance_refl us) in
         (nth us, sym (same_from_rows bases (nth us) own types alike joint.solves))
 
     pub first_unmatched : (i : ℕ) → match_types bases vars own types ≡ unmatched i → IsFirstUnmatched bases own types i

@@ -9,7 +9,7 @@ use Rattle.um_units.specs.PowerMap.{PowerMap}
 use Rattle.um_units.specs.Range.{fits}
 use Rattle.um_units.specs.Variables.{VariablesBelow}
 use Rattle.um_units.specs.Solutions.{IsSolvable}
-use Rattle.um_units.proofs.Solutions.{IsInstance_refl, IsSolvable-front}
+use Rattle.um_units.proofs.Solutions.{IsSubstitutionInstance_refl, IsSolvable-front}
 use Rattle.um_tree.specs.TypeTree.{TypeTree}
 use Rattle.um_elim.specs.Elimination.{Elimination, Solved, NoSolution, Range, eliminate, on_solved}
 use Rattle.um_elim.specs.Instances.{SolvesExactly, IsJointlyRight}
@@ -21,7 +21,7 @@ use Rattle.um_sig.specs.Matching.{type_rows, matching_rows, eliminate_each, Matc
 
 -- ---- rows
 solvable_so_far : (n : ℕ) (done us : List PowerMap) → SolvesExactly n done us → IsSolvable n done
-solvable_so_far n done us exact = (us, (exact us).0 (IsInstance_refl us))
+solvable_so_far n done us exact = (us, (exact us).0 (IsSubstitutionInstance_refl us))
 
 one_by_one : (n : ℕ) (us done rows : List PowerMap) → All (VariablesBelow n) rows → SolvesExactly n done us → IsJointlyRight n (done ++ rows) (eliminate_each us rows)
 one_by_one n us done [] below exact = subst (λ rs. SolvesExactly n rs us) (sym (append-nil done)) exact
@@ -31,7 +31,7 @@ one_by_one n us done (row ∷ rows) below exact =
     (λ t. rw t tt)
   where
     h : VariablesBelow (length us) row
-    h = subst (λ m. VariablesBelow m row) (sym ((exact us).0 (IsInstance_refl us)).per_slot) (All-head (VariablesBelow n) row rows below)
+    h = subst (λ m. VariablesBelow m row) (sym ((exact us).0 (IsSubstitutionInstance_refl us)).per_slot) (All-head (VariablesBelow n) row rows below)
 
     split : (done ++ row ∷ []) ++ rows ≡ done ++ row ∷ rows
     split = append_assoc done (row ∷ []) rows

@@ -16,3 +16,5 @@ pub mod Machine
 pub mod Scanning
 pub mod Decoding
 pub mod Feeding
+-- Tokens that follow one another.
+pub mod Order

@@ -1,5 +1,5 @@
--- What holds of all traces, by the definitions alone. The outcome of a call is that of the meaning, and with a budget of 0
--- the command's own call finds none, which no trace tells.
+-- What holds of all traces, by the definitions alone. The outcome of a call is that of the meaning, and with a budget
+-- of 0 the command's own call finds none, which no trace tells.
 use Rattle.std.specs.Prelude.{ℕ, suc, ◌≡◌, List}
 use Rattle.um_tree.specs.ValueTree.{ValueTree}
 use Rattle.um_tree.specs.ProgramTree.{FunctionTree}
@@ -32,8 +32,8 @@ TracesAreUnique =
     (fs : List FunctionTree) (j : ℕ) (vs : List ValueTree) (b : ℕ) (t u : Trace) →
     StopsWith fs j vs b t → StopsWith fs j vs b u → t ≡ u
 
--- A call stops in its body with a trace exactly if the body does, where the calls in the body stop by the same condition.
--- So the bound on calls inside one another doesn't matter.
+-- A call stops in its body with a trace exactly if the body does, where the calls in the body stop by the same
+-- condition. So the bound on calls inside one another doesn't matter.
 abbrev pub InItsBody : List FunctionTree → ℕ → List ValueTree → ℕ → Trace → Type 0
 InItsBody fs j vs b t = (f : FunctionTree) × Takes fs j vs f × Stops fs (inside fs) j f.body vs b t
 

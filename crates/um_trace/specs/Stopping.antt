@@ -1,5 +1,5 @@
--- When the evaluation of an expression stops with a trace: the parts before have values by the meaning, each with what is
--- left of the budget, and then a part stops, or the operation of the node has no value on the values of its parts.
+-- When the evaluation of an expression stops with a trace: the parts before have values by the meaning, each with what
+-- is left of the budget, and then a part stops, or the operation of the node has no value on the values of its parts.
 -- Source: the order of the parts is that of the meaning (um_tree's Meaning): call by value, from left to right.
 use Rattle.std.specs.Prelude.{ℕ, zero, suc, ◌≡◌, ◌⊎◌, true, false, List, [], ◌∷◌, ◌++◌, length, Some, Result}
 use Rattle.std.specs.Prelude.{Err, slice_get}
@@ -38,7 +38,8 @@ module _ (fs : List FunctionTree) (body : Stopping) (here : ℕ) where
   abbrev pub Fails : ℕ → List ValueTree → Result ValueTree Stop → Trace → Type 0
   Fails at operands r t = (why : Stop) × (r ≡ Err why) × (t ≡ stop_at (node_at at) why operands)
 
-  -- a call at this place of function j on values: nothing is left of the budget, or the body of j stops inside this call
+  -- a call at this place of function j on values: nothing is left of the budget, or the body of j stops inside this
+  -- call
   abbrev pub CallStops : ℕ → ℕ → List ValueTree → ℕ → Trace → Type 0
   CallStops at j vs zero t = ((f : FunctionTree) × Takes fs j vs f) × (t ≡ stop_at (node_at at) budget_end [])
   CallStops at j vs (suc b) t = (u : Trace) × body j vs b u × (t ≡ inside_call (node_at at) u)

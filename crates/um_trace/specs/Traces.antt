@@ -9,7 +9,8 @@ pub record Spot : Type 0 where
   pub function : ℕ
   pub at : ℕ
 
--- why there is no value, the node that has none, the values of its parts, and the calls that are open, the innermost first
+-- why there is no value, the node that has none, the values of its parts, and the calls that are open, the innermost
+-- first
 pub record Trace : Type 0 where
   pub why : Stop
   pub node : Spot
