@@ -1,5 +1,5 @@
 -- What may stand directly after the text of a token.
-use Rattle.std.proofs.Common.{◌≡◌, ◌≢◌, ℕ, ◌<◌, Bool, true, false, cond, ◌==◌, ◌||◌, ◌&&◌, eqb, List, [], ◌∷◌, ◌++◌, Option, Some, None, is_some, option_map, bytes_eq, encode_utf8_all, refl, sym, ap, subst, ◌∙◌, inl, ⊎_elim, lit<}
+use Rattle.std.proofs.Common.{◌≡◌, ℕ, ◌<◌, Bool, true, false, cond, ◌==◌, ◌||◌, ◌&&◌, eqb, List, [], ◌∷◌, ◌++◌, Option, Some, None, is_some, option_map, bytes_eq, encode_utf8_all, refl, sym, ap, subst, ◌∙◌, inl, ⊎_elim, lit<}
 use Rattle.std.proofs.lemmas.Bool.{false≢true, eqb-true, or_from}
 use Rattle.std.specs.Char.{is_ascii_digit, is_ascii_alphanumeric}
 use Rattle.unicode_ident.specs.Ident.{is_xid_continue}
@@ -13,10 +13,11 @@ use Rattle.um_syntax.specs.Vocabulary.{symbol_text}
 use Rattle.um_syntax.specs.Numeral.{Whole, Decimal, Ratio, number_value, numeral_text}
 use Rattle.um_syntax.specs.Lexeme.{starts_name, Lexeme, Name, Var, Number, Word, Hole, Sign, text_of, IsLexeme, begins, begins_part, SignEnds, Ends, IsAlone, is_whole, kind_of}
 use Rattle.um_syntax.specs.Machine.{double_symbol, double_symbols, found_pair}
-use Rattle.um_syntax.proofs.Tables.{symbol_form, symbol_text-double, symbol_text-three}
+use Rattle.um_syntax.proofs.Tables.{symbol_form}
 use Rattle.um_syntax.proofs.Texts.{head_of}
 use Rattle.um_syntax.proofs.Reading.{ascii_no_name, digit_no_name}
 use Rattle.um_syntax.proofs.Closing.{or_false}
+use Rattle.um_syntax.proofs.SignEnds.{grows, sign_ends}
 use Rattle.um_tidy.specs.Spaces.{goes_on, is_dot, sign_runs_into, begins_lettered, runs_into}
 
 -- ---- longer signs
@@ -24,31 +25,6 @@ use Rattle.um_tidy.specs.Spaces.{goes_on, is_dot, sign_runs_into, begins_lettere
 abbrev pub first_of : List ℕ → ℕ
 first_of [] = 0
 first_of (c ∷ cs) = c
-
--- a longer sign or a comment stands where this character follows the text of a sign
-abbrev pub grows : List ℕ → ℕ → Bool
-grows [] c = false
-grows (a ∷ []) c = is_some (double_symbol a c) || (a == 47 && c == 47)
-grows (a ∷ b ∷ more) c = false
-
-some_none : (o : Option Symbol) (k : Symbol) → is_some o ≡ false → o ≡ Some k → ⊥
-some_none o k none is = false≢true (sym none ∙ ap is_some is)
-
-no_comment : (a c : ℕ) → (a == 47 && c == 47) ≡ false → ◌≢◌ {A = List ℕ} (a ∷ c ∷ []) (47 ∷ 47 ∷ [])
-no_comment a c refused e = let p : a ≡ 47 = cc in let q : c ≡ 47 = cc in false≢true (sym refused ∙ ap (λ x. x == 47 && c == 47) p ∙ ap (λ x. 47 == 47 && x == 47) q)
-
-single_ends : (a c : ℕ) (more : List ℕ) → grows (a ∷ []) c ≡ false → SignEnds (a ∷ []) (c ∷ more)
-single_ends a c more refused =
-    let parts = or_false (is_some (double_symbol a c)) (a == 47 && c == 47) refused in
-    ((λ k e. some_none (double_symbol a c) k parts.0 (symbol_text-double a c k e)), no_comment a c parts.1)
-
-double_ends : (a b c : ℕ) (more : List ℕ) → SignEnds (a ∷ b ∷ []) (c ∷ more)
-double_ends a b c more = ((λ k e. symbol_text-three a b c [] k e), λ e. cc)
-
-sign_ends : (k : Symbol) (c : ℕ) (more : List ℕ) → grows (symbol_text k) c ≡ false → SignEnds (symbol_text k) (c ∷ more)
-sign_ends k c more refused =
-    ⊎_elim (λ f. subst (λ t. SignEnds t (c ∷ more)) (sym f.1) (single_ends f.0 c more (subst (λ t. grows t c ≡ false) f.1 refused)))
-    (λ f. subst (λ t. SignEnds t (c ∷ more)) (sym f.2) (double_ends f.0 f.1 c more)) (symbol_form k)
 
 -- the table of such signs is right
 goes_same : (s t : Symbol) → goes_on s t ≡ grows (symbol_text s) (first_of (symbol_text t))

@@ -39,7 +39,7 @@ space_low b h = grind arith
 feed_low : (b : ℕ) → is_line_feed b ≡ true → b < 128
 feed_low b h = grind arith
 
-record IsSome (xs : List ℕ) : Type 0 where
+pub record IsSome (xs : List ℕ) : Type 0 where
   pub first : ℕ
   pub others : List ℕ
   pub is : xs ≡ first ∷ others
@@ -53,6 +53,9 @@ encode_some c = let size = length-encode c in let least = (len_utf8_bounds c).0 
 
 abbrev encodes_some : (c : ℕ) (cs : List ℕ) → IsSome (encodes (c ∷ cs))
 encodes_some c cs = let s = encode_some c in record { first = s.first; others = s.others ++ encodes cs; is = ap (λ xs. xs ++ encodes cs) s.is }
+
+pub some_bytes : (c : ℕ) (cs : List ℕ) → IsSome (encodes (c ∷ cs))
+some_bytes c cs = encodes_some c cs
 
 ascii_front : (c : ℕ) (xs : List ℕ) → c < 128 → encodes (c ∷ xs) ≡ c ∷ encodes xs
 ascii_front c xs low = ap (λ bs. bs ++ encodes xs) (encode_ascii c low)
@@ -87,7 +90,7 @@ lines_by_test c cs false e more =
     lines_glue (encode c) (encodes cs) (encode_fails is_line_feed feed_low c e) ∙ ap (glue (encode c)) more ∙ glue_front c (lines cs)
     ∙ sym (ap (λ b. map encodes (cond b ([] ∷ lines cs) (in_front c (lines cs)))) e)
 
-lines_encodes : (cs : List ℕ) → lines (encodes cs) ≡ map encodes (lines cs)
+pub lines_encodes : (cs : List ℕ) → lines (encodes cs) ≡ map encodes (lines cs)
 lines_encodes [] = refl
 lines_encodes (c ∷ cs) = lines_by_test c cs (is_line_feed c) refl (lines_encodes cs)
 
@@ -126,7 +129,7 @@ comment_by_test c cs false e more =
     let plain : comment (encodes (c ∷ cs)) ≡ trimmed (encodes (c ∷ cs)) = subst (λ xs. comment xs ≡ trimmed xs) (sym (encodes_some c cs).is) (comment_other s.first (s.others ++ encodes cs) (other_first c cs e s)) in
     plain ∙ trimmed_encodes (c ∷ cs) ∙ ap encodes (sym (comment_other c cs e))
 
-comment_encodes : (line : List ℕ) → comment (encodes line) ≡ encodes (comment line)
+pub comment_encodes : (line : List ℕ) → comment (encodes line) ≡ encodes (comment line)
 comment_encodes [] = refl
 comment_encodes (c ∷ cs) = comment_by_test c cs (is_space c) refl (comment_encodes cs)
 

@@ -27,7 +27,7 @@ spaces_skip zero text = refl
 spaces_skip (suc n) text = comment_space 32 (spaces n ++ text) refl ∙ spaces_skip n text
 
 -- the comment of a line is trimmed
-comment_trimmed : (line : List ℕ) → trimmed (comment line) ≡ comment line
+pub comment_trimmed : (line : List ℕ) → trimmed (comment line) ≡ comment line
 comment_trimmed line = trimmed_again (drop (prefix_len is_space line) line)
 
 -- a comment that begins with slashes is its own comment
@@ -63,7 +63,7 @@ spaces_line : (n : ℕ) (text : List ℕ) → IsLine text → IsLine (spaces n +
 spaces_line zero text h = h
 spaces_line (suc n) text h = (refl, spaces_line n text h)
 
-comment_is_line : (text : List ℕ) → IsComment text → IsLine text
+pub comment_is_line : (text : List ℕ) → IsComment text → IsLine text
 comment_is_line [] h = tt
 comment_is_line (c ∷ cs) h = subst IsLine (sym h.1) (refl, (refl, h.2))
 
@@ -80,37 +80,38 @@ past_unblank above.Line = refl
 past_unblank above.Blank = refl
 
 -- a line that is printed
-module _ (last : Above → List ℕ → List ℕ) (n c : ℕ) (cs : List ℕ) (h : IsComment (c ∷ cs)) (e : trimmed (c ∷ cs) ≡ c ∷ cs) (rest : List ℕ) (again : each_line last above.Line (lines rest) ≡ rest) where
-  abbrev whole_line : List ℕ
+module _ (n c : ℕ) (cs : List ℕ) (h : IsComment (c ∷ cs)) (e : trimmed (c ∷ cs) ≡ c ∷ cs) (rest : List ℕ) where
+  abbrev pub whole_line : List ℕ
   whole_line = spaces n ++ c ∷ cs
 
-  its_comment : comment whole_line ≡ c ∷ cs
+  pub its_comment : comment whole_line ≡ c ∷ cs
   its_comment = spaces_skip n (c ∷ cs) ∙ comment_same (c ∷ cs) h e
 
   printed : (a : Above) → own_line a whole_line ≡ blank_line a ++ (spaces n ++ (c ∷ cs ++ 10 ∷ []))
   printed a =
       ap (comment_line a whole_line) its_comment ∙ ap (λ m. blank_line a ++ (spaces m ++ (c ∷ cs ++ 10 ∷ []))) (indent_before n (c ∷ cs) (47 ∷ h.0) h.1)
 
-  its_lines : lines ((spaces n ++ (c ∷ cs ++ 10 ∷ [])) ++ rest) ≡ whole_line ∷ lines rest
+  pub its_lines : lines ((spaces n ++ (c ∷ cs ++ 10 ∷ [])) ++ rest) ≡ whole_line ∷ lines rest
   its_lines =
       let flat : (spaces n ++ (c ∷ cs ++ 10 ∷ [])) ++ rest ≡ whole_line ++ 10 ∷ rest =
       append_assoc (spaces n) (c ∷ cs ++ 10 ∷ []) rest ∙ ap (λ xs. spaces n ++ xs) (append_assoc (c ∷ cs) (10 ∷ []) rest) ∙ sym (append_assoc (spaces n) (c ∷ cs) (10 ∷ rest)) in
       ap lines flat ∙ lines_past whole_line rest (spaces_line n (c ∷ cs) (comment_is_line (c ∷ cs) h))
 
-  step : (a : Above) → each_line last a (whole_line ∷ lines rest) ≡ (blank_line a ++ (spaces n ++ (c ∷ cs ++ 10 ∷ []))) ++ rest
-  step a =
-      line_and_more last a whole_line rest ∙ ap (λ xs. xs ++ each_line last (below a (comment whole_line)) (lines rest)) (printed a)
-      ∙ ap (λ xs. (blank_line a ++ (spaces n ++ (c ∷ cs ++ 10 ∷ []))) ++ xs) (ap (λ t. each_line last (below a t) (lines rest)) its_comment ∙ again)
+  module _ (last : Above → List ℕ → List ℕ) (again : each_line last above.Line (lines rest) ≡ rest) where
+    step : (a : Above) → each_line last a (whole_line ∷ lines rest) ≡ (blank_line a ++ (spaces n ++ (c ∷ cs ++ 10 ∷ []))) ++ rest
+    step a =
+        line_and_more last a whole_line rest ∙ ap (λ xs. xs ++ each_line last (below a (comment whole_line)) (lines rest)) (printed a)
+        ∙ ap (λ xs. (blank_line a ++ (spaces n ++ (c ∷ cs ++ 10 ∷ []))) ++ xs) (ap (λ t. each_line last (below a t) (lines rest)) its_comment ∙ again)
 
-  line_again : (a : Above) → each_line last (unblank a) (lines ((blank_line a ++ (spaces n ++ (c ∷ cs ++ 10 ∷ []))) ++ rest)) ≡ (blank_line a ++ (spaces n ++ (c ∷ cs ++ 10 ∷ []))) ++ rest
-  line_again above.Nothing = ap (each_line last above.Nothing) its_lines ∙ step above.Nothing
-  line_again above.Line = ap (each_line last above.Line) its_lines ∙ step above.Line
-  line_again above.Blank = ap (λ ls. each_line last above.Line ([] ∷ ls)) its_lines ∙ step above.Blank
+    line_again : (a : Above) → each_line last (unblank a) (lines ((blank_line a ++ (spaces n ++ (c ∷ cs ++ 10 ∷ []))) ++ rest)) ≡ (blank_line a ++ (spaces n ++ (c ∷ cs ++ 10 ∷ []))) ++ rest
+    line_again above.Nothing = ap (each_line last above.Nothing) its_lines ∙ step above.Nothing
+    line_again above.Line = ap (each_line last above.Line) its_lines ∙ step above.Line
+    line_again above.Blank = ap (λ ls. each_line last above.Line ([] ∷ ls)) its_lines ∙ step above.Blank
 
 own_again : (last : Above → List ℕ → List ℕ) (a : Above) (line text : List ℕ) → IsComment text → trimmed text ≡ text → (rest : List ℕ) → each_line last (unblank (below a text)) (lines rest) ≡ rest
     → each_line last (unblank a) (lines (comment_line a line text ++ rest)) ≡ comment_line a line text ++ rest
 own_again last a line [] h e rest again = ap (λ b. each_line last b (lines rest)) (sym (past_unblank a)) ∙ again
-own_again last a line (c ∷ cs) h e rest again = line_again last (indent line) c cs h e rest again a
+own_again last a line (c ∷ cs) h e rest again = line_again (indent line) c cs h e rest last again a
 
 -- the last line stands as it is laid out
 abbrev LastAgain : (Above → List ℕ → List ℕ) → Type 0
@@ -121,7 +122,7 @@ each_again last same a line [] h = same a line h.0
 each_again last same a line (next ∷ more) h =
     own_again last a line (comment line) h.0 (comment_trimmed line) (each_line last (below a (comment line)) (next ∷ more)) (each_again last same (below a (comment line)) next more h.1)
 
-append_none : (xs : List ℕ) → xs ++ [] ≡ xs
+pub append_none : (xs : List ℕ) → xs ++ [] ≡ xs
 append_none [] = refl
 append_none (x ∷ xs) = ap (λ l. x ∷ l) (append_none xs)
 
@@ -129,7 +130,7 @@ own_line_again : LastAgain own_line
 own_line_again a line h =
     subst (λ xs. each_line own_line (unblank a) (lines xs) ≡ xs) (append_none (own_line a line)) (own_again own_line a line (comment line) h (comment_trimmed line) [] refl)
 
-spaces_alone : (n : ℕ) → IsLine (spaces n)
+pub spaces_alone : (n : ℕ) → IsLine (spaces n)
 spaces_alone zero = tt
 spaces_alone (suc n) = (refl, spaces_alone n)
 
@@ -153,15 +154,15 @@ before_token_again begins above.Blank line h =
 
 -- ---- gaps
 
-after_line : (text : List ℕ) → IsComment text → IsLine (comment_after text)
+pub after_line : (text : List ℕ) → IsComment text → IsLine (comment_after text)
 after_line [] h = tt
 after_line (c ∷ cs) h = (refl, comment_is_line (c ∷ cs) h)
 
-after_again : (text : List ℕ) → IsComment text → trimmed text ≡ text → comment (comment_after text) ≡ text
+pub after_again : (text : List ℕ) → IsComment text → trimmed text ≡ text → comment (comment_after text) ≡ text
 after_again [] h e = refl
 after_again (c ∷ cs) h e = comment_space 32 (c ∷ cs) refl ∙ comment_same (c ∷ cs) h e
 
-end_lines : (line rest : List ℕ) → IsComment (comment line) → lines (line_end line ++ rest) ≡ comment_after (comment line) ∷ lines rest
+pub end_lines : (line rest : List ℕ) → IsComment (comment line) → lines (line_end line ++ rest) ≡ comment_after (comment line) ∷ lines rest
 end_lines line rest h = ap lines (append_assoc (comment_after (comment line)) (10 ∷ []) rest) ∙ lines_past (comment_after (comment line)) rest (after_line (comment line) h)
 
 end_again : (line : List ℕ) → IsComment (comment line) → line_end (comment_after (comment line)) ≡ line_end line

@@ -1,13 +1,14 @@
 pub mod Lines
 pub mod Trimmed
-pub mod InOrder
 pub mod Beside
 pub mod GapLines
 pub mod Encoded
 pub mod Printed
 pub mod GapsAgain
+pub mod GapComments
 pub mod StandAgain
 pub mod Anew
 pub mod TokensAnew
+pub mod CommentsAnew
 pub mod TidiedAgain
 mod Examples

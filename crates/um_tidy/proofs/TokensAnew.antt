@@ -271,12 +271,12 @@ from_start (c ∷ cs) tokens none l = subst (λ b. Lexes [] (cond b 3 0) (cond b
 
 -- ---- the law
 
-record IsMarked (cs : List ℕ) : Type 0 where
+pub record IsMarked (cs : List ℕ) : Type 0 where
   pub mark : List ℕ
   pub whole : encodes cs ≡ mark ++ encodes (body cs)
   pub place : length mark ≡ body_place cs
 
-marked : (cs : List ℕ) → IsMarked cs
+pub marked : (cs : List ℕ) → IsMarked cs
 marked [] = record { mark = []; whole = refl; place = refl }
 marked (c ∷ cs) = by_test (is_mark c) refl
   where

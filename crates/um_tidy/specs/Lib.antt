@@ -5,5 +5,3 @@ pub mod Spaces
 pub mod Gaps
 pub mod Tidied
 pub mod Laws
--- What mirrors the code: tokens that follow one another.
-pub mod Order

@@ -7,7 +7,7 @@ use Rattle.um_syntax.specs.declared.vocabulary.Symbol.{Symbol}
 use Rattle.um_syntax.specs.declared.vocabulary.Symbol.TheVariants as symbol
 use Rattle.um_tidy.specs.declared.stand.Stand.{Stand}
 
--- the first signs of longer ones and of comments, with what goes on with each
+-- A longer sign or a comment begins with the first sign, and the second goes on with it.
 abbrev pub goes_on : Symbol → Symbol → Bool
 goes_on symbol.LeftBracket symbol.Less = true
 goes_on symbol.LeftBracket symbol.LessEqual = true
@@ -32,18 +32,18 @@ sign_runs_into s (kind.Sign t) = goes_on s t
 sign_runs_into s (kind.Number value digits one) = is_dot s
 sign_runs_into s _ = false
 
--- letters or digits of a token stand first, and not a quote or a sign
+-- the token begins with a letter or a digit, not with a quote or a sign
 abbrev pub begins_lettered : Kind → Bool
 begins_lettered (kind.Var x) = false
 begins_lettered (kind.Sign s) = false
 begins_lettered _ = true
 
--- Without a space the two would be read as others. No program has two such tokens that the table puts together; with
--- this each text keeps its tokens.
+-- Without a space the two would be read as other tokens, so one stands between them whatever the table says.
 abbrev pub runs_into : Kind → Kind → Bool
 runs_into (kind.Sign s) k = sign_runs_into s k
 runs_into _ k = begins_lettered k
 
--- the second token stands as its stand and that of the first ask
+-- A space stands between two tokens, unless the first stands directly before the next token or the second directly
+-- after the one before it.
 abbrev pub is_spaced : Stand → Kind → Stand → Kind → Bool
 is_spaced first k second l = not (first.before || second.after) || runs_into k l

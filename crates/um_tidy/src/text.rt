@@ -2,11 +2,11 @@
 ghost use Rattle.std.specs.Prelude.{◌≡◌, ◌≤◌, ◌++◌, OnOk, IfOk, length, slice_range};
 ghost use Rattle.std.specs.Str.{chars};
 ghost use Rattle.um_syntax.specs.Lexing.{body_place, HasTokens};
+ghost use Rattle.um_syntax.specs.Order.{AreInOrder};
 ghost use Rattle.um_tidy.specs.Stands.{stand_of};
 ghost use Rattle.um_tidy.specs.Spaces.{is_spaced};
 ghost use Rattle.um_tidy.specs.Gaps.{inner_gap};
 ghost use Rattle.um_tidy.specs.Tidied.{spelling, tidied_after, tidied_from, tidied};
-ghost use Rattle.um_tidy.specs.Order.{AreInOrder};
 
 use crate::gap::{push_first_gap, push_inner_gap, push_last_gap, push_only_gap};
 use crate::spacing::is_spaced;

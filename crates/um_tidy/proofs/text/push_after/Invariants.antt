@@ -1,6 +1,6 @@
 use Rattle.std.proofs.Common.{◌≡◌, ◌++◌, length, drop}
 use Rattle.um_tidy.specs.Tidied.{tidied_after}
-use Rattle.um_tidy.specs.Order.{AreInOrder}
+use Rattle.um_syntax.specs.Order.{AreInOrder}
 use Rattle.um_tidy.proofs.text.push_after.Given as goal
 
 abbrev pub invariant-loop-k : goal.invariant-loop-k
