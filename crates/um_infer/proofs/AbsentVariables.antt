@@ -22,12 +22,12 @@ use Rattle.um_units.proofs.Variables.{IsClosed-one, IsClosed-base}
 use Rattle.um_tree.proofs.Homomorphisms.{power_of-h}
 use Rattle.um_elim.specs.declared.pivot.Pivot.{Pivot}
 use Rattle.um_elim.specs.Pivot.{pivot, least_power, has_other, has_base}
-use Rattle.um_elim.specs.Turn.{substitute, quotients, turn, inverted_if_negative}
-use Rattle.um_elim.specs.Elimination.{Elimination, Solved, NoSolution, Range, is_empty, ended, after_turn, turn_at, turns, eliminate}
+use Rattle.um_elim.specs.ElimStep.{substitute, quotients, step, inverted_if_negative}
+use Rattle.um_elim.specs.Elimination.{Elimination, Solved, NoSolution, Range, is_empty, ended, after_step, step_at, steps, eliminate}
 use Rattle.um_elim.specs.Solution.{rigid_unit, rigid_units}
 use Rattle.um_elim.proofs.Cases.{on_test}
 use Rattle.um_elim.proofs.PivotLaws.{is_pivot}
-use Rattle.um_elim.proofs.TurnLaws.{less, less-zero, power_of-quotients}
+use Rattle.um_elim.proofs.StepLaws.{less, less-zero, power_of-quotients}
 use Rattle.um_elim.proofs.Rows.{solved_is_most_general, length-solved}
 use Rattle.um_elim.proofs.Slots.{length-rigid}
 use Rattle.um_rows.specs.declared.row.Row.{Row}
@@ -87,8 +87,8 @@ module _ (k : ℕ) where
   substitute_stays : (m : ℕ) (w : PowerMap) → Lacks k w → Stays (substitute m w)
   substitute_stays m w lacks j ne = on_test (m == j) (λ e. rw e lacks) (λ e. rw e (other_lacks j ne))
 
-  turn_stays : (m p : ℕ) (r : PowerMap) → k ≢ m → Lacks k r → Stays (turn m p r)
-  turn_stays m p r ne lacks = substitute_stays m (mul (atom (Var m)) (quotients m p r)) (mul_lacks (atom (Var m)) (quotients m p r) (other_lacks m ne) (quotients_lack m p r lacks))
+  step_stays : (m p : ℕ) (r : PowerMap) → k ≢ m → Lacks k r → Stays (step m p r)
+  step_stays m p r ne lacks = substitute_stays m (mul (atom (Var m)) (quotients m p r)) (mul_lacks (atom (Var m)) (quotients m p r) (other_lacks m ne) (quotients_lack m p r lacks))
 
   -- ---- the elimination
   abbrev SolvedLacks : Elimination → Type 0
@@ -100,25 +100,25 @@ module _ (k : ℕ) where
     ended_lacks : (m : ℕ) (us : List PowerMap) (r : PowerMap) → All (Lacks k) us → SolvedLacks (ended m us r)
     ended_lacks m us r all = on_test (has_base r) (λ f. rw f tt) (λ f. rw f (all_replaced (substitute m one) (substitute_stays m one (IsClosed-one k)) us all))
 
-    after_turn_lacks : (m : ℕ) (us : List PowerMap) (r : PowerMap) → All (Lacks k) us → Lacks k r → SolvedLacks (after_turn again m us r)
-    after_turn_lacks m us r all lacks =
+    after_step_lacks : (m : ℕ) (us : List PowerMap) (r : PowerMap) → All (Lacks k) us → Lacks k r → SolvedLacks (after_step again m us r)
+    after_step_lacks m us r all lacks =
         on_test (fits r && list_all fits us)
         (λ f. rw f (on_test (has_other m r) (λ g. rw g (rest us r all lacks)) (λ g. rw g (ended_lacks m us r all))))
         (λ f. rw f tt)
 
-    turn_at_lacks : (us : List PowerMap) (r : PowerMap) (o : Option Pivot) → pivot r ≡ o → All (Lacks k) us → Lacks k r → SolvedLacks (turn_at again us r o)
-    turn_at_lacks us r None e all lacks = on_test (is_empty r.terms) (λ f. rw f all) (λ f. rw f tt)
-    turn_at_lacks us r (Some t) e all lacks =
+    step_at_lacks : (us : List PowerMap) (r : PowerMap) (o : Option Pivot) → pivot r ≡ o → All (Lacks k) us → Lacks k r → SolvedLacks (step_at again us r o)
+    step_at_lacks us r None e all lacks = on_test (is_empty r.terms) (λ f. rw f all) (λ f. rw f tt)
+    step_at_lacks us r (Some t) e all lacks =
         let found = is_pivot r t e in
         let q = inverted_if_negative t.power r in
         let other : k ≢ t.variable = held_other r lacks t.variable (λ z. found.nonzero (sym found.is ∙ z)) in
         let low = inverted_lacks t.power r lacks in
-        let stays = turn_stays t.variable (nat_abs t.power) q other low in
-        after_turn_lacks t.variable (map (replace (turn t.variable (nat_abs t.power) q)) us) (replace (turn t.variable (nat_abs t.power) q) q) (all_replaced _ stays us all) (replaced _ stays q low)
+        let stays = step_stays t.variable (nat_abs t.power) q other low in
+        after_step_lacks t.variable (map (replace (step t.variable (nat_abs t.power) q)) us) (replace (step t.variable (nat_abs t.power) q) q) (all_replaced _ stays us all) (replaced _ stays q low)
 
-  turns_lack : (fuel : ℕ) (us : List PowerMap) (r : PowerMap) → All (Lacks k) us → Lacks k r → SolvedLacks (turns fuel us r)
-  turns_lack zero us r all lacks = tt
-  turns_lack (suc f) us r all lacks = turn_at_lacks (turns f) (turns_lack f) us r (pivot r) refl all lacks
+  steps_lack : (fuel : ℕ) (us : List PowerMap) (r : PowerMap) → All (Lacks k) us → Lacks k r → SolvedLacks (steps fuel us r)
+  steps_lack zero us r all lacks = tt
+  steps_lack (suc f) us r all lacks = step_at_lacks (steps f) (steps_lack f) us r (pivot r) refl all lacks
 
   -- the row's slots have units without it
   pub put_lacks : (us : List PowerMap) (row : PowerMap) → VariablesBelow (length us) row → All (Lacks k) us → Lacks k (replace (nth us) row)
@@ -127,7 +127,7 @@ module _ (k : ℕ) where
   eliminate_lacks : (us : List PowerMap) (row : PowerMap) → VariablesBelow (length us) row → All (Lacks k) us → SolvedLacks (eliminate us row)
   eliminate_lacks us row slots all =
       on_test (fits (replace (nth us) row))
-      (λ f. rw f (turns_lack (suc (least_power (replace (nth us) row))) us (replace (nth us) row) all (put_lacks us row slots all)))
+      (λ f. rw f (steps_lack (suc (least_power (replace (nth us) row))) us (replace (nth us) row) all (put_lacks us row slots all)))
       (λ f. rw f tt)
 
   -- ---- row after row

@@ -87,7 +87,7 @@ same_last (z ∷ xs) (w ∷ ys) x y e =
     (λ i. head i ∷ both.0 i, both.1)
 
 -- signatures of the same types
-same_signature : (g h : Signature) → signature_types g ≡ signature_types h → g ≡ h
+pub same_signature : (g h : Signature) → signature_types g ≡ signature_types h → g ≡ h
 same_signature g h e = let both = same_last g.params h.params g.result h.result e in λ i. record { params = both.0 i; result = both.1 i }
 
 pub types-put : (s : ℕ → PowerMap) (g : Signature) → signature_types (put_signature s g) ≡ map (put s) (signature_types g)

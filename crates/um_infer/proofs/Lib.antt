@@ -6,10 +6,14 @@ pub mod InferenceLaws
 pub mod CallTypes
 pub mod AnswerLaws
 mod SolvingSteps
-mod FormingSteps
-mod GeneralSteps
+pub mod FormingSteps
+pub mod GeneralSteps
 mod AbsentVariables
 pub mod SmallSchemes
-mod Judged
+pub mod Judged
 mod ProgramSteps
 mod Examples
+pub mod Prefix
+pub mod SameEquations
+pub mod GivenSchemes
+pub mod SchemeJudgements

@@ -8,7 +8,7 @@ use Rattle.std.proofs.lemmas.List.{length-map}
 use Rattle.std.proofs.lemmas.List.Elements.{All-nil, All-cons, All-head, All-tail, All-append}
 use Rattle.um_units.specs.PowerMap.{PowerMap, replace, nth}
 use Rattle.um_units.specs.Variables.{VariablesBelow}
-use Rattle.um_units.proofs.Solutions.{IsInstance_refl}
+use Rattle.um_units.proofs.Solutions.{IsSubstitutionInstance_refl}
 use Rattle.um_tree.specs.TypeTree.{TypeTree, NoteTree, bool_type, num_type, list_type, record_type}
 use Rattle.um_tree.specs.ProgramTree.{FunctionTree, ProgramTree, Signature, SchemeTree}
 use Rattle.um_tree.specs.Typing.{put, put_signature, moved}
@@ -169,7 +169,7 @@ module _ (bases parameters slots at : ℕ) (within : parameters ≤ slots) (g : 
   solution_judged us is right =
       let solution = put_signature (nth us) g in
       let scheme = numbered_scheme (generalised bases parameters slots solution) in
-      let long : length us ≡ slots = ((right.0 us).0 (IsInstance_refl us)).per_slot in
+      let long : length us ≡ slots = ((right.0 us).0 (IsSubstitutionInstance_refl us)).per_slot in
       let lacking : (k : ℕ) → k < parameters → All (Lacks k) us = λ k l. solved_lack k slots rows (rigid_units bases parameters slots) us (length-rigid bases parameters slots) low (rigid_lack k bases parameters slots l) is in
       let few = solution_small bases parameters slots within us long lacking right.1 g own in
       on_test (signature_fits solution)

@@ -47,7 +47,12 @@ pub(crate) fn formed_scheme(
 }
 
 /// The types with the solution put for their slots, the result's last.
-fn solved_types(alloc: Global, solver: &Solver, rows: &Rows, at: u32) -> Result<Types, Refusal>
+pub(crate) fn solved_types(
+    alloc: Global,
+    solver: &Solver,
+    rows: &Rows,
+    at: u32,
+) -> Result<Types, Refusal>
     requires { solver.now.spent ≡ false }
     ensures solved { IfOk result (λ types. type_trees types
         ≡ map (put (nth solver.now.units)) (signature_types (rows_signature rows.now))) }

@@ -137,7 +137,7 @@ fn generalised_types(
 }
 
 /// The types with the unit parameters as variables, and as they are if there are none. No power changes.
-pub(crate) fn general_types(
+pub fn general_types(
     alloc: Global,
     bases: u32,
     parameters: u32,

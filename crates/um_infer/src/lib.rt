@@ -16,10 +16,12 @@ mod general;
 pub mod laws;
 mod program;
 mod refusal;
+mod solution;
 mod solving;
 mod stop;
 
 pub use call::type_call;
-pub use general::generalised_unit;
+pub use general::{general_types, generalised_unit};
 pub use program::{infer, infer_first};
+pub use solution::{Solution, most_general};
 pub use stop::{CallStop, InferStop};

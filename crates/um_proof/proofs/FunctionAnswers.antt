@@ -23,29 +23,17 @@ use Rattle.um_kept.specs.declared.stop.CertStop.{CertStop}
 use Rattle.um_kept.specs.declared.stop.CertStop.TheVariants as stop
 use Rattle.um_proof.specs.declared.stop.ProveStop.{ProveStop}
 use Rattle.um_proof.specs.declared.stop.ProveStop.TheVariants as prove
-use Rattle.um_kept.specs.Making.{first}
+use Rattle.um_kept.specs.Kept.{first}
 use Rattle.um_kept.specs.Formed.{PassesInRows, PassesAtEnd}
 use Rattle.um_proof.specs.Answers.{judged, NamesRefusal, IsRefused, IsYesMade, IsNoMade}
 use Rattle.um_proof.specs.Proving.{IsYesOf, IsNoOf, IsRefusal, IsWithinLimits, IsProved}
 use Rattle.um_proof.specs.ProgramSteps.{CarriesInFunction, CarriesInSome, IsFirstRefused, of_function}
-use Rattle.um_proof.proofs.SameEquations.{same_count, same_equations}
-use Rattle.um_proof.proofs.GivenSchemes.{given}
-use Rattle.um_proof.proofs.FunctionRows.{HasJudgement, judged_rows, same_signature, same_rows, judged_same, moved_refusal}
+use Rattle.um_infer.proofs.SchemeJudgements.{schemes_before, schemes_until, judge_by, HasJudgement, judged_rows, same_signature, same_rows, judged_same}
+use Rattle.um_infer.proofs.SameEquations.{same_count, same_equations}
+use Rattle.um_proof.proofs.FunctionRows.{moved_refusal}
 
 pub same_item : {X : Type 0} (x y : X) → Some x ≡ Some y → x ≡ y
 same_item x y e = cc e
-
--- ---- the schemes of the functions before
-pub schemes_before : (p : ProgramTree) → IsFormed p → (n : ℕ) (schemes : List SchemeTree) → n ≤ length p.functions → infer_first p n ≡ all_schemes schemes → HaveSchemes p schemes n
-schemes_before p formed n schemes l before = have_schemes p n schemes (first_are_principal p formed n schemes l before)
-
-pub schemes_until : (p : ProgramTree) → IsFormed p → (n i : ℕ) (schemes : List SchemeTree) → n ≤ length p.functions → i ≤ n → infer_first p n ≡ all_schemes schemes → HaveSchemes p schemes i
-schemes_until p formed n i schemes l le before = λ j h. schemes_before p formed n schemes l before j (omega (arith, h, le))
-
--- what a function is judged, by its equations
-abbrev judge_by : ℕ → FunctionTree → ℕ → Equations → Judgement
-judge_by bases f n e =
-    cond (leb n 2000) (by_range (first_past e.steps) (by_rows bases f.units n f.at (record { params = e.params; result = e.result }) (rows_of e.steps))) too_many_slots
 
 same_schemes : (xs ys : List SchemeTree) → all_schemes xs ≡ all_schemes ys → xs ≡ ys
 same_schemes xs ys e = cc e
@@ -65,18 +53,7 @@ module _ (records : List RecordTree) (schemes : List SchemeTree) (i : ℕ) (f : 
 -- ---- a function with a scheme
 module _ (p : ProgramTree) (formed : IsFormed p) (n : ℕ) (schemes : List SchemeTree) (few : n ≤ length p.functions) (before : infer_first p n ≡ all_schemes schemes) (i : ℕ) (inside : i < n) (f : FunctionTree) (declared : slice_get p.functions i ≡ Some f)
     (s : SchemeTree) (at : slice_get schemes i ≡ Some s) where
-  judged_here : judge (length p.bases) p.records schemes i f ≡ has_scheme s
-  judged_here =
-      let g = given p formed n schemes i s few before inside at in
-      sym (λ k. judge_by (length p.bases) f (same_count p.records i f g.earlier schemes g.alike k) (same_equations p.records i f g.earlier schemes g.alike k)) ∙ g.judged f declared
-
-  pub scheme_judgement : HasJudgement (length p.bases) p.records schemes i f (has_scheme s)
-  scheme_judgement = judged_rows (length p.bases) p.records schemes i f (has_scheme s) tt judged_here
-
   module _ (r : Rows) (h : AreEquations p.records schemes i f r) where
-    pub yes_judged : judged (length p.bases) f.units f.at r ≡ has_scheme s
-    yes_judged = judged_same (length p.bases) p.records schemes i f r h f.at ∙ scheme_judgement.by
-
     pub yes_valid : (result : Result Yes CertStop) → IsYesMade (length p.bases) f.units r s result → IfOk result (IsYesOf p schemes i f s)
     yes_valid (Ok c) valid =
         subst (λ g. IsValidYes (length p.bases) f.units (slot_count p.records schemes i f) (function_rows p.records schemes i f) g s c) (same_signature (length p.bases) p.records schemes i f r h)

@@ -28,59 +28,9 @@ use Rattle.um_slots.proofs.ParameterSlots.{parameters_have_slots}
 use Rattle.um_rows.proofs.Solved.{rows_hold_slots, types_hold_slots}
 use Rattle.um_proof.specs.Answers.{AreFunctionRows, judged}
 use Rattle.um_declared.proofs.Inferred.{rows_hold_declared_units, types_hold_declared_units, rows_are_few}
+use Rattle.um_infer.proofs.SchemeJudgements.{same_signature, same_rows}
 use Rattle.um_proof.specs.ProgramSteps.{HaveInferred}
 use Rattle.um_proof.proofs.DeclaredUnits.{all_none, types_none}
-
--- the schemes before hold their own variables alone
-pub own_variables_alone : (p : ProgramTree) (schemes : List SchemeTree) (i : ℕ) → HaveSchemes p schemes i → HaveVariablesBelow i schemes
-own_variables_alone p schemes i have j s l e =
-    let h = have j l in
-    let same : h.scheme ≡ s = (let both : Some h.scheme ≡ Some s = sym h.stands ∙ e in cc both) in
-    subst (λ (t : SchemeTree). All (λ k. k < t.vars) (variables (signature_types t.signature))) same h.principal.below
-
--- no limit is met
-abbrev pub IsUnlimited : Judgement → Type 0
-IsUnlimited (has_scheme s) = Unit {0}
-IsUnlimited too_many_slots = ⊥
-IsUnlimited (passes_range at) = ⊥
-IsUnlimited (has_no_typing row at) = Unit {0}
-IsUnlimited (not_general row at) = Unit {0}
-
-module _ (bases : ℕ) (records : List RecordTree) (schemes : List SchemeTree) (i : ℕ) (f : FunctionTree) where
-  pub record HasJudgement (j : Judgement) : Type 0 where
-    pub few : slot_count records schemes i f ≤ 2000
-    pub in_range : first_past (slot_equations records schemes i f).steps ≡ None
-    pub by : by_rows bases f.units (slot_count records schemes i f) f.at (slot_signature records schemes i f) (rows_of (slot_equations records schemes i f).steps) ≡ j
-
-  abbrev own : Judgement
-  own = by_rows bases f.units (slot_count records schemes i f) f.at (slot_signature records schemes i f) (rows_of (slot_equations records schemes i f).steps)
-
-  in_range_by : (o : Option ℕ) (j : Judgement) → IsUnlimited j → first_past (slot_equations records schemes i f).steps ≡ o → slot_count records schemes i f ≤ 2000 → by_range o own ≡ j → HasJudgement j
-  in_range_by None j free e few h = record { few = few; in_range = e; by = h }
-  in_range_by (Some at) j free e few h = absurd (subst IsUnlimited (sym h) free)
-
-  pub judged_rows : (j : Judgement) → IsUnlimited j → judge bases records schemes i f ≡ j → HasJudgement j
-  judged_rows j free h =
-      let steps = (slot_equations records schemes i f).steps in
-      on_test (leb (slot_count records schemes i f) 2000)
-      (λ e.
-      let few : slot_count records schemes i f ≤ 2000 = grind (arith, nat_tests) in
-      in_range_by (first_past steps) j free refl few (subst (λ b. cond b (by_range (first_past steps) own) too_many_slots ≡ j) e h))
-      (λ e. absurd (subst IsUnlimited (sym (subst (λ b. cond b (by_range (first_past steps) own) too_many_slots ≡ j) e h)) free))
-
-  -- ---- by the equations that the code gives
-  module _ (r : Rows) (h : AreEquations records schemes i f r) where
-    pub same_signature : rows_signature r ≡ slot_signature records schemes i f
-    same_signature = λ k. record { params = h.params k; result = h.result k }
-
-    pub same_rows : units_of r.list.items.items ≡ function_rows records schemes i f
-    same_rows = ap units_of h.list
-
-    pub judged_same : (at : ℕ) → judged bases f.units at r ≡ by_rows bases f.units (slot_count records schemes i f) at (slot_signature records schemes i f) (rows_of (slot_equations records schemes i f).steps)
-    judged_same at =
-        ap (λ n. by_rows bases f.units n at (rows_signature r) r.list.items.items) h.slots
-        ∙ ap (λ g. by_rows bases f.units (slot_count records schemes i f) at g r.list.items.items) same_signature
-        ∙ ap (by_rows bases f.units (slot_count records schemes i f) at (slot_signature records schemes i f)) h.list
 
 -- a refusal is the same wherever a power of the scheme would be refused
 module _ (bases parameters slots at other : ℕ) (g : Signature) (rows : List Row) where

@@ -5,7 +5,7 @@ use Rattle.std.proofs.lemmas.List.Elements.{All-nil, All-cons, All-head, All-tai
 use Rattle.um_units.specs.PowerMap.{PowerMap, nth}
 use Rattle.um_units.specs.Variables.{VariablesBelow}
 use Rattle.um_units.specs.Solutions.{IsJointSolution}
-use Rattle.um_units.proofs.Solutions.{IsInstance_refl, Solves-back}
+use Rattle.um_units.proofs.Solutions.{IsSubstitutionInstance_refl, Solves-back}
 use Rattle.um_tree.specs.ProgramTree.{Signature, SchemeTree}
 use Rattle.um_tree.specs.Typing.{put_signature}
 use Rattle.um_elim.specs.Elimination.{Elimination, Solved, NoSolution, Range, eliminate}
@@ -88,7 +88,7 @@ module _ (bases parameters slots : ℕ) (rows : List Row) (few : parameters ≤ 
 
   pub solution_joint : IsJointSolution slots (units_of rows) us
   solution_joint =
-      let h = (right.0 us).0 (IsInstance_refl us) in
+      let h = (right.0 us).0 (IsSubstitutionInstance_refl us) in
       record { per_slot = h.per_slot; solves = Solves-back (nth us) (parameter_rows bases parameters) (units_of rows) h.solves }
 
 -- ---- without unit parameters

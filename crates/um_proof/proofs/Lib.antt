@@ -1,9 +1,6 @@
-mod Prefix
 mod General
 mod HeldVariables
 mod Renamed
-mod SameEquations
-mod GivenSchemes
 mod FunctionRows
 mod FunctionAnswers
 mod WayBackSteps

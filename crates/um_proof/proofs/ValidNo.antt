@@ -28,7 +28,7 @@ use Rattle.um_kept.specs.declared.stop.CertStop.TheVariants as stop
 use Rattle.um_kept.specs.Answers.{HoldsNoParameter}
 use Rattle.um_proof.specs.Answers.{AreFunctionRows, judged, NamesRefusal, IsRefused, IsNoMade}
 use Rattle.um_kept.specs.Answers.{AreRefused, CarriesInRows}
-use Rattle.um_kept.specs.Making.{Kept, IsReached, first}
+use Rattle.um_kept.specs.Kept.{Kept, IsReached, first}
 use Rattle.um_proof.proofs.Judged.{IsRefusedBySteps, judged_refused, own_unsolved, front_unsolved, front_inside, units_low}
 use Rattle.um_kept.proofs.Solving.{reached_solved, refused_unsolved}
 use Rattle.um_kept.proofs.Refusals.{RefutedBy, refused_apart}

@@ -38,17 +38,17 @@ use Rattle.um_check.proofs.Returns.{signature_put}
 use Rattle.um_check.specs.Existence.{exponents}
 use Rattle.um_check.proofs.Exponents.{replace-exponents}
 use Rattle.um_kept.specs.declared.kept.Head.{Head}
-use Rattle.um_kept.specs.declared.kept.Making.{Making}
+use Rattle.um_kept.specs.declared.kept.PartialCertificate.{PartialCertificate}
 use Rattle.um_kept.specs.declared.row.Refused.{Refused}
 use Rattle.um_kept.specs.declared.stop.CertStop.{CertStop}
 use Rattle.um_kept.specs.declared.stop.CertStop.TheVariants as stop
-use Rattle.um_kept.specs.Making.{Kept, IsReached, first}
+use Rattle.um_kept.specs.Kept.{Kept, IsReached, first}
 use Rattle.um_kept.specs.Formed.{IsPowerIn}
 use Rattle.um_proof.specs.Answers.{AreFunctionRows, judged, IsYesMade}
 use Rattle.um_kept.specs.Answers.{Agrees, AreRefused, CarriesInRows, CarriesPower}
 use Rattle.um_proof.specs.Steps.{CarriesReturned}
 use Rattle.um_proof.specs.Renaming.{held_variables, certificate_order, general_units, GoBack}
-use Rattle.um_proof.proofs.Prefix.{numbered_in_front}
+use Rattle.um_infer.proofs.Prefix.{numbered_in_front}
 use Rattle.um_proof.proofs.General.{general_solution, signature_moved, signature_fits_in_place, all_general_below}
 use Rattle.um_proof.proofs.HeldVariables.{member_of_unit, member_of_held, in_order, renamed_below}
 use Rattle.um_proof.proofs.Judged.{judged_solved, solution_below, solution_joint}
@@ -101,7 +101,7 @@ module _ (bases parameters : ℕ) (r : Rows) (asked : AreFunctionRows bases para
         | inr u ↦ let e = u.1 in cc (sym e ∙ f)
       ]
 
-  module _ (making : Making) (kept : Kept) (agrees : Agrees head making kept) (reached : IsReached rows starts number kept) (at : ℕ) (s : SchemeTree) (so : judged bases parameters at r ≡ has_scheme s) where
+  module _ (partial : PartialCertificate) (kept : Kept) (agrees : Agrees head partial kept) (reached : IsReached rows starts number kept) (at : ℕ) (s : SchemeTree) (so : judged bases parameters at r ≡ has_scheme s) where
     abbrev units : List PowerMap
     units = kept.solution
 
@@ -176,13 +176,13 @@ module _ (bases parameters : ℕ) (r : Rows) (asked : AreFunctionRows bases para
     listed k m = in_order (signature_types (put_signature (nth variable_units) g)) (map (λ k. num_type (atom (Var k))) (held_variables head g units)) variable_units k m
 
     -- ---- the way back
-    module _ (back : List PowerMap) (go_back : GoBack order (held_variables head g units) making.back.items back) where
-      at_variable : (j k : ℕ) → j < r.slots → power_of (nth variable_units j) (Var k) ≢ pos 0 → nth back (place order k) ≡ nth making.back.items k
+    module _ (back : List PowerMap) (go_back : GoBack order (held_variables head g units) partial.back.items back) where
+      at_variable : (j k : ℕ) → j < r.slots → power_of (nth variable_units j) (Var k) ≢ pos 0 → nth back (place order k) ≡ nth partial.back.items k
       at_variable j k l held =
           let inside : j < length variable_units = subst (λ n. j < n) (sym long_units) l in
           let low : k < r.slots + parameters = All-get_or (VariablesBelow (r.slots + parameters)) variable_units j (atom (Var j)) inside (all_general_below bases parameters r.slots units count below) k held in
           let stands = member_of_unit variable_units j k (atom (Var j)) inside (held-member (nth variable_units j) k held) in
-          All-member (λ i. nth back (place order i) ≡ nth making.back.items i) (held_variables head g units) k go_back (member_of_held (r.slots + parameters) k variable_units low stands)
+          All-member (λ i. nth back (place order i) ≡ nth partial.back.items i) (held_variables head g units) k go_back (member_of_held (r.slots + parameters) k variable_units low stands)
 
       pub goes_back : (j : ℕ) → j < r.slots → returned renamed back j ≡ mul (extension kept.back (nth units j)) (inv (atom (Var j)))
       goes_back j l =
@@ -190,9 +190,9 @@ module _ (bases parameters : ℕ) (r : Rows) (asked : AreFunctionRows bases para
           ap (λ v. mul v (inv (atom (Var j))))
           (ap (replace (nth back)) (nth-map (replace (by_place order)) variable_units j (subst (λ n. j < n) (sym long_units) l))
           ∙ replace-replace (by_place order) (nth back) u
-          ∙ replace_alike (λ k. replace (nth back) (by_place order k)) (nth making.back.items) u (λ k held. replace-variable (nth back) (place order k) ∙ at_variable j k l held)
-          ∙ ap (replace (nth making.back.items)) (nth-map in_place units j (subst (λ n. j < n) (sym count) l))
-          ∙ sym (back_is head making.back.items kept.back (nth units j) agrees.back_count agrees.back (All-get_or (VariablesBelow r.slots) units j (atom (Var j)) (subst (λ n. j < n) (sym count) l) below)))
+          ∙ replace_alike (λ k. replace (nth back) (by_place order k)) (nth partial.back.items) u (λ k held. replace-variable (nth back) (place order k) ∙ at_variable j k l held)
+          ∙ ap (replace (nth partial.back.items)) (nth-map in_place units j (subst (λ n. j < n) (sym count) l))
+          ∙ sym (back_is head partial.back.items kept.back (nth units j) agrees.back_count agrees.back (All-get_or (VariablesBelow r.slots) units j (atom (Var j)) (subst (λ n. j < n) (sym count) l) below)))
 
       -- a number that passes at the end
       pub end_passes : (e : CertStop) → CarriesReturned renamed back e → IsYesMade bases parameters r s (Err e)
@@ -202,7 +202,7 @@ module _ (bases parameters : ℕ) (r : Rows) (asked : AreFunctionRows bases para
       end_passes stop.NoMemory h = tt
 
       -- ---- all together
-      module _ (parts : List (List Part)) (are : map exponents parts ≡ making.parts.items) (named : All (NamesRowsBelow number) parts) (narrow : (j : ℕ) → j < length renamed → IsNarrow (returned renamed back j)) where
+      module _ (parts : List (List Part)) (are : map exponents parts ≡ partial.parts.items) (named : All (NamesRowsBelow number) parts) (narrow : (j : ℕ) → j < length renamed → IsNarrow (returned renamed back j)) where
         long_parts : length parts ≡ r.slots
         long_parts = sym (length-map parts exponents) ∙ ap length are ∙ agrees.parts_count
 
@@ -211,13 +211,13 @@ module _ (bases parameters : ℕ) (r : Rows) (asked : AreFunctionRows bases para
             agrees.parts j l ∙ ap (λ us. slice_index_or us j one) (sym are)
             ∙ get_or-map exponents parts j [] one (subst (λ n. j < n) (sym long_parts) l)
 
-        comes_back : ComesBack r.slots rows renamed back making.divisor parts
+        comes_back : ComesBack r.slots rows renamed back partial.divisor parts
         comes_back = record {
           positive = agrees.positive;
           per_slot = long_parts;
           named = subst (λ n. All (NamesRowsBelow n) parts) (sym long) named;
           by_rows = λ j l.
-              ap (λ u. pow u making.divisor) (goes_back j l)
+              ap (λ u. pow u partial.divisor) (goes_back j l)
               ∙ ap (pow (mul (extension kept.back (nth units j)) (inv (atom (Var j))))) agrees.divisor
               ∙ state.kept.by_rows j (subst (λ n. j < n) (sym count) l)
               ∙ ap (replace (nth rows)) (part_of j l)
@@ -234,7 +234,7 @@ module _ (bases parameters : ℕ) (r : Rows) (asked : AreFunctionRows bases para
             let inside : k < r.slots = omega (arith, l, few) in
             nth-map (replace (λ _. one)) units k (subst (λ n. k < n) (sym count) inside) ∙ ap (replace (λ _. one)) (state.rigid k l) ∙ replace-base (λ _. one) (bases + k)
 
-        pub valid_yes : (c : Yes) → c.vars ≡ length order → c.solution ≡ renamed → c.back ≡ back → c.divisor ≡ making.divisor → c.parts ≡ parts → c.rigid ≡ cond (nat_eq parameters 0) [] closed →
+        pub valid_yes : (c : Yes) → c.vars ≡ length order → c.solution ≡ renamed → c.back ≡ back → c.divisor ≡ partial.divisor → c.parts ≡ parts → c.rigid ≡ cond (nat_eq parameters 0) [] closed →
             IsValidYes bases parameters r.slots rows g s c
         valid_yes c vars solution way divisor exps rigid = record {
           solves = subst (IsJointSolution r.slots rows) (sym solution) renamed_joint;
@@ -245,7 +245,7 @@ module _ (bases parameters : ℕ) (r : Rows) (asked : AreFunctionRows bases para
               subst (λ us. ComesBack r.slots rows us c.back c.divisor c.parts) (sym solution)
               (subst (λ us. ComesBack r.slots rows renamed us c.divisor c.parts) (sym way)
               (subst (λ d. ComesBack r.slots rows renamed back d c.parts) (sym divisor)
-              (subst (ComesBack r.slots rows renamed back making.divisor) (sym exps) comes_back)));
+              (subst (ComesBack r.slots rows renamed back partial.divisor) (sym exps) comes_back)));
           general = shows_general bases r.slots parameters rows c.rigid closed rigid (IsJointSolution-replace r.slots rows units (λ _. one) asked.rows joint) closed_rigid;
         }
 
@@ -262,12 +262,12 @@ returned_narrow solution back j unit l is h =
     subst (λ u. IsNarrow (mul (replace (nth back) u) (inv (atom (Var j))))) same h
 
 -- ---- the parts of what is kept
-module _ (bases parameters : ℕ) (r : Rows) (making : Making) (kept : Kept) (agrees : Agrees (record { slots = r.slots; parameters = parameters; bases = bases }) making kept) (state : ReachedState bases parameters r.slots (units_of r.list.items.items) (length r.list.items.items) kept) where
-  same_part : (j : ℕ) → j < length making.parts.items → kept.parts j ≡ get_or making.parts.items j one
+module _ (bases parameters : ℕ) (r : Rows) (partial : PartialCertificate) (kept : Kept) (agrees : Agrees (record { slots = r.slots; parameters = parameters; bases = bases }) partial kept) (state : ReachedState bases parameters r.slots (units_of r.list.items.items) (length r.list.items.items) kept) where
+  same_part : (j : ℕ) → j < length partial.parts.items → kept.parts j ≡ get_or partial.parts.items j one
   same_part j l = agrees.parts j (subst (λ n. j < n) agrees.parts_count l)
 
-  pub parts_closed : All (λ u. (n : ℕ) → power_of u (Base n) ≡ pos 0) making.parts.items
-  parts_closed = All-from_get_or (λ u. (n : ℕ) → power_of u (Base n) ≡ pos 0) making.parts.items one (λ j l n. ap (λ u. power_of u (Base n)) (sym (same_part j l)) ∙ state.parts_closed j n)
+  pub parts_closed : All (λ u. (n : ℕ) → power_of u (Base n) ≡ pos 0) partial.parts.items
+  parts_closed = All-from_get_or (λ u. (n : ℕ) → power_of u (Base n) ≡ pos 0) partial.parts.items one (λ j l n. ap (λ u. power_of u (Base n)) (sym (same_part j l)) ∙ state.parts_closed j n)
 
-  pub parts_below : All (VariablesBelow (length r.list.items.items)) making.parts.items
-  parts_below = All-from_get_or (VariablesBelow (length r.list.items.items)) making.parts.items one (λ j l. subst (VariablesBelow (length r.list.items.items)) (same_part j l) (state.parts_below j))
+  pub parts_below : All (VariablesBelow (length r.list.items.items)) partial.parts.items
+  parts_below = All-from_get_or (VariablesBelow (length r.list.items.items)) partial.parts.items one (λ j l. subst (VariablesBelow (length r.list.items.items)) (same_part j l) (state.parts_below j))

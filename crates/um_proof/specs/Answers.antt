@@ -16,7 +16,7 @@ use Rattle.um_check.specs.Validity.{IsValidYes}
 use Rattle.um_check.specs.Refutation.{IsValidNo}
 use Rattle.um_kept.specs.declared.stop.CertStop.{CertStop}
 use Rattle.um_kept.specs.declared.stop.CertStop.TheVariants as stop
-use Rattle.um_kept.specs.Making.{first}
+use Rattle.um_kept.specs.Kept.{first}
 use Rattle.um_kept.specs.Answers.{HoldsNoParameter}
 use Rattle.um_kept.specs.Formed.{PassesInRows, PassesAtEnd}
 

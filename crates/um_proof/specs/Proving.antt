@@ -16,7 +16,7 @@ use Rattle.um_check.specs.Refutation.{IsValidNo}
 use Rattle.um_proof.specs.declared.proofs.Proofs.{Proofs}
 use Rattle.um_proof.specs.declared.stop.ProveStop.{ProveStop}
 use Rattle.um_proof.specs.declared.stop.ProveStop.TheVariants as stop
-use Rattle.um_kept.specs.Making.{first}
+use Rattle.um_kept.specs.Kept.{first}
 use Rattle.um_kept.specs.Formed.{PassesInRows, PassesAtEnd}
 
 module _ (p : ProgramTree) (schemes : List SchemeTree) where

@@ -40,8 +40,8 @@ pub fn make_no(alloc: Global, rows: &Rows, units: u32, bases: u32) -> Result<No,
     };
     match make_rows(alloc, head, &rows.list.items) {
         Ok(Treated::Refused { row, refused }) => refusal(alloc, rows, units, bases, row, refused),
-        Ok(Treated::Made(making)) => {
-            drop(making);
+        Ok(Treated::Made(partial)) => {
+            drop(partial);
             unreachable!()
         }
         Err(stop) => Err(stop),
@@ -106,8 +106,8 @@ fn loose_no(alloc: Global, slots: u32, bases: u32, rows: &[Row], last: u32) -> R
     };
     match make_rows(alloc, head, rows) {
         Ok(Treated::Refused { row: _, refused }) => no_of(alloc, true, last, refused),
-        Ok(Treated::Made(making)) => {
-            drop(making);
+        Ok(Treated::Made(partial)) => {
+            drop(partial);
             unreachable!()
         }
         Err(stop) => Err(stop),

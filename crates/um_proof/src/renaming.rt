@@ -159,7 +159,8 @@ fn numbered_solution(
     held: &[u32],
 ) -> Result<Numbered, NoMemory>
     requires fits { IsTrue (signature_fits (put_signature (nth units.now) (rows_signature rows.now))) }
-    requires variables { All (λ k. k < 4294967295) (variables (to_number (rows_signature rows.now) units.now held.now)) }
+    requires variables { All (λ k. k < 4294967295) (variables
+        (to_number (rows_signature rows.now) units.now held.now)) }
     ensures types { IfOk result (λ n. type_trees n.types
         ≡ renumbered (to_number (rows_signature rows.now) units.now held.now)) }
     ensures vars { IfOk result (λ n. n.vars

@@ -13,7 +13,7 @@ ghost use Rattle.um_rows.specs.Judgement.{has_scheme};
 ghost use Rattle.um_check.specs.Combination.{NamesRowsBelow};
 ghost use Rattle.um_check.specs.Validity.{returned};
 ghost use Rattle.um_check.specs.Existence.{exponents};
-ghost use Rattle.um_kept.specs.Making.{Kept, IsReached};
+ghost use Rattle.um_kept.specs.Kept.{Kept, IsReached};
 ghost use Rattle.um_kept.specs.Answers.{Agrees, CarriesPower, start};
 ghost use Rattle.um_proof.specs.Steps.{CarriesReturned};
 ghost use Rattle.um_proof.specs.Renaming.{is_base};
@@ -22,7 +22,7 @@ ghost use Rattle.um_proof.specs.Answers.{AreFunctionRows, judged, IsYesMade};
 use crate::renaming::{Renaming, renamed_solution};
 use std::alloc::{AllocError, Global};
 use um_check::{PartLists, Parts, Yes};
-use um_kept::{CertStop, Head, Making, Treated, make_rows, narrowed, parts_of};
+use um_kept::{CertStop, Head, PartialCertificate, Treated, make_rows, narrowed, parts_of};
 use um_rows::Rows;
 use um_tree::Scheme;
 use um_units::{Atom, NoMemory, Term, Unit, UnitStop, Units};
@@ -51,9 +51,9 @@ pub fn make_yes(
         bases,
     };
     match make_rows(alloc, head, &rows.list.items) {
-        Ok(Treated::Made(making)) => {
-            let made = certificate(alloc, rows, units, bases, &making);
-            drop(making);
+        Ok(Treated::Made(partial)) => {
+            let made = certificate(alloc, rows, units, bases, &partial);
+            drop(partial);
             made
         }
         Ok(Treated::Refused { row: _, refused }) => {
@@ -70,13 +70,13 @@ fn certificate(
     rows: &Rows,
     units: u32,
     bases: u32,
-    making: &Making,
+    partial: &PartialCertificate,
 ) -> Result<Yes, CertStop>
     requires rows { AreFunctionRows bases units rows.now }
     requires reached { (kept : Kept) × IsReached (units_of rows.now.list.items.items)
         (start (record { slots = rows.now.slots; parameters = units; bases = bases }))
         (length rows.now.list.items.items) kept
-        × Agrees (record { slots = rows.now.slots; parameters = units; bases = bases }) making.now kept }
+        × Agrees (record { slots = rows.now.slots; parameters = units; bases = bases }) partial.now kept }
     requires judged { (at : ℕ) × (s : SchemeTree) × (judged bases units at rows.now ≡ has_scheme s) }
     ensures { (at : ℕ) (s : SchemeTree) → judged bases units at rows.now ≡ has_scheme s
         → IsYesMade bases units rows.now s result }
@@ -86,9 +86,9 @@ fn certificate(
         parameters: units,
         bases,
     };
-    let renaming = renamed_solution(alloc, head, rows, &making.solution, &making.back)?;
+    let renaming = renamed_solution(alloc, head, rows, &partial.solution, &partial.back)?;
     match all_return(alloc, &renaming.solution, &renaming.back) {
-        Ok(()) => Ok(with_parts(alloc, units, making, renaming)?),
+        Ok(()) => Ok(with_parts(alloc, units, partial, renaming)?),
         Err(stop) => {
             drop(renaming);
             Err(stop)
@@ -100,28 +100,28 @@ fn certificate(
 fn with_parts(
     alloc: Global,
     units: u32,
-    making: &Making,
+    partial: &PartialCertificate,
     renaming: Renaming,
 ) -> Result<Yes, AllocError>
-    requires narrow { All IsNarrow making.now.parts.items }
-    requires rows { All (λ u. (n : ℕ) → power_of u (Base n) ≡ pos 0) making.now.parts.items }
+    requires narrow { All IsNarrow partial.now.parts.items }
+    requires rows { All (λ u. (n : ℕ) → power_of u (Base n) ≡ pos 0) partial.now.parts.items }
     ensures vars { IfOk result (λ yes. yes.vars ≡ renaming.vars) }
     ensures solution { IfOk result (λ yes. yes.solution ≡ renaming.solution.items) }
     ensures back { IfOk result (λ yes. yes.back ≡ renaming.back.items) }
-    ensures divisor { IfOk result (λ yes. yes.divisor ≡ making.now.divisor) }
-    ensures parts { IfOk result (λ yes. map exponents yes.parts ≡ making.now.parts.items) }
-    ensures named { (n : ℕ) → All (VariablesBelow n) making.now.parts.items
+    ensures divisor { IfOk result (λ yes. yes.divisor ≡ partial.now.divisor) }
+    ensures parts { IfOk result (λ yes. map exponents yes.parts ≡ partial.now.parts.items) }
+    ensures named { (n : ℕ) → All (VariablesBelow n) partial.now.parts.items
         → IfOk result (λ yes. All (NamesRowsBelow n) yes.parts) }
     ensures rigid { IfOk result (λ yes. yes.rigid
-        ≡ (if nat_eq units 0 then [] else map (replace (λ _. one)) making.now.solution.items)) }
+        ≡ (if nat_eq units 0 then [] else map (replace (λ _. one)) partial.now.solution.items)) }
 {
-    let parts = part_lists(alloc, &making.parts)?;
-    let rigid = rigid_solution(alloc, units, &making.solution)?;
+    let parts = part_lists(alloc, &partial.parts)?;
+    let rigid = rigid_solution(alloc, units, &partial.solution)?;
     Ok(Yes {
         vars: renaming.vars,
         solution: Units::from_vec(renaming.solution),
         back: Units::from_vec(renaming.back),
-        divisor: making.divisor,
+        divisor: partial.divisor,
         parts,
         rigid: Units::from_vec(rigid),
     })

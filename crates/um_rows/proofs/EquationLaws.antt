@@ -16,6 +16,7 @@ use Rattle.um_slots.specs.declared.context.Context.{Context}
 use Rattle.um_slots.specs.declared.stop.SlotStop.{SlotStop}
 use Rattle.um_slots.specs.declared.stop.SlotStop.TheVariants as slot_stop
 use Rattle.um_rows.specs.declared.row.Rows.{Rows}
+use Rattle.um_rows.specs.declared.nodes.TypedRows.{TypedRows}
 use Rattle.um_rows.specs.declared.row.RowStop.{RowStop}
 use Rattle.um_rows.specs.declared.row.RowStop.TheVariants as stop
 use Rattle.um_slots.specs.declared.slots.Slots.{Slots}
@@ -29,7 +30,7 @@ use Rattle.um_slots.specs.Callees.{known_function, callee_of, callee, may_recur,
 use Rattle.um_rows.specs.Equations.{own_signature, result_rows, Equations, equations, slot_equations}
 use Rattle.um_slots.specs.Keys.{Key, hole, name, function_keys}
 use Rattle.um_slots.specs.Slots.{has_slot, place, own_number, slot_unit, slot_order, slot_count}
-use Rattle.um_slots.specs.Slotting.{with_keys, IsTable, StopsSlots, HaveSlots, name_unit}
+use Rattle.um_slots.specs.Slotting.{with_keys, IsTable, StopsSlots, name_unit}
 use Rattle.um_slots.specs.SlotUnits.{AreNumbered, AreVariables}
 use Rattle.um_rows.specs.SlotStops.{row_stop}
 use Rattle.um_rows.specs.Pushed.{StopsPast}
@@ -39,11 +40,11 @@ use Rattle.um_slots.specs.Contexts.{IsContextOf}
 use Rattle.um_rows.specs.Answers.{described, AreEquations, StopsFor}
 use Rattle.um_slots.proofs.KeyOrder.{has-order, with_none, at-place}
 use Rattle.um_rows.proofs.SlotLaws.{here, behind}
-use Rattle.um_slots.proofs.TableLaws.{slots_both}
 use Rattle.um_rows.proofs.Variables.{CalleeBelow}
 use Rattle.um_rows.proofs.OfferLaws.{all_below}
 use Rattle.um_rows.proofs.PushLaws.{first_of, first_past-append, rows_of-append}
-use Rattle.um_rows.proofs.SameDerivation.{KeysAlike, same_equations}
+use Rattle.um_rows.specs.NodeTypes.{derived_nodes, function_nodes}
+use Rattle.um_rows.proofs.SameDerivation.{KeysAlike, same_body, same_equations}
 
 -- ---- what the table says of the keys
 hole_of : Key → ℕ
@@ -198,10 +199,15 @@ module _ (records : List Record) (schemes : List Scheme) (number at : ℕ) (recu
       stops_right (stop.Range k) h = (few, first_is ∙ h)
       stops_right stop.NoMemory h = tt
 
-      pub body_right : (r : Result Rows RowStop) → MatchResult r (AreBodyRows steps found (map type_tree c.params.items) t.count) (StopsPast (first_past steps)) →
-          MatchResult r (AreEquations (map record_tree records) (map scheme_tree schemes) number fn) (StopsFor (map record_tree records) (map scheme_tree schemes) number fn)
-      body_right (Ok r) h = rows_right r h
+      pub body_right : (r : Result TypedRows RowStop) → MatchResult r (λ (typed : TypedRows). AreBodyRows steps found (map type_tree c.params.items) t.count typed.rows) (StopsPast (first_past steps)) →
+          MatchResult r (λ (typed : TypedRows). AreEquations (map record_tree records) (map scheme_tree schemes) number fn typed.rows) (StopsFor (map record_tree records) (map scheme_tree schemes) number fn)
+      body_right (Ok typed) h = rows_right typed.rows h
       body_right (Err e) h = stops_right e h
+
+      -- the nodes of the body
+      pub nodes_right : derived_nodes found ≡ function_nodes (map record_tree records) (map scheme_tree schemes) number fn
+      nodes_right =
+          ap derived_nodes (derived_is ∙ same_body (nth t.holes.items) (λ k. slot_unit (slot_order keys) (hole k)) (nth (map name_unit t.names.items)) (λ k. slot_unit (slot_order keys) (name k)) (map record_tree records) (map scheme_tree schemes) number fn (closed_callee schemes number (may_recur fn) closed) alike)
 
   pub too_many : (e : SlotStop) → StopsSlots (with_keys [] keys) e → StopsFor (map record_tree records) (map scheme_tree schemes) number fn (row_stop e)
   too_many slot_stop.TooMany h = subst (λ o. 2000 < length o) (with_none keys) h

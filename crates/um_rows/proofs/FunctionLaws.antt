@@ -74,7 +74,7 @@ module _ (earlier : Earlier) (schemes : List SchemeTree) (i : ℕ) (fit : AllFit
       let same : j ≡ i = h.0 in
       subst (λ (k : ℕ). Offers own (callee schemes i f k) g) (sym same) (subst (λ c. Offers own c g) (sym is) (h.2 ∙ e h.1))
 
-  closes : (own sig : Signature) → (MayRecur f → sig ≡ own) → (j : ℕ) (g : Signature) → Offers own (callee schemes i f j) g → Calls earlier i f sig j g
+  pub closes : (own sig : Signature) → (MayRecur f → sig ≡ own) → (j : ℕ) (g : Signature) → Offers own (callee schemes i f j) g → Calls earlier i f sig j g
   closes own sig e j g h =
       on_test (ltb j i)
       (λ t. let l = ltb-true j i t in inl (l, (fit j l).typings g (subst (λ c. Offers own c g) (callee_before j l) h)))
@@ -104,7 +104,7 @@ module _ (earlier : Earlier) (schemes : List SchemeTree) (i : ℕ) (fit : AllFit
 
   -- ---- where each literal's unit is closed
   module _ (closed : LiteralsAreClosed f.body) where
-    pub body_typed : (records : List RecordTree) (sig : Signature) (h : IsLooseTypingOf records earlier i f sig) → Typed records (Calls earlier i f sig) h.choice sig.params (put_literals h.choice f.body) sig.result
+    abbrev pub body_typed : (records : List RecordTree) (sig : Signature) (h : IsLooseTypingOf records earlier i f sig) → Typed records (Calls earlier i f sig) h.choice sig.params (put_literals h.choice f.body) sig.result
     body_typed records sig h = subst (λ e. Typed records (Calls earlier i f sig) h.choice sig.params e sig.result) (sym (same_literals h.choice f.body closed)) h.body
 
     abbrev body_used : (records : List RecordTree) (sig : Signature) → IsLooseTypingOf records earlier i f sig → ℕ → PowerMap
@@ -118,16 +118,16 @@ module _ (earlier : Earlier) (schemes : List SchemeTree) (i : ℕ) (fit : AllFit
     module _ (records : List RecordTree) (holes names : ℕ → PowerMap) where
       -- ---- sound
       module _ (v : ℕ → PowerMap) where
-        params_sound : (n : ℕ) (ms : List NoteTree) → TypesMatch (λ k. replace v (names k)) ms (map (put v) (noted_types holes names n ms))
+        pub params_sound : (n : ℕ) (ms : List NoteTree) → TypesMatch (λ k. replace v (names k)) ms (map (put v) (noted_types holes names n ms))
         params_sound n [] = refl
         params_sound n (m ∷ ms) =
             (put v (noted_type holes names n m), map (put v) (noted_types holes names (n + note_holes m) ms), note_sound v holes names n m, params_sound (n + note_holes m) ms, refl)
 
-        result_sound : (at : ℕ) (t : TypeTree) (n : ℕ) (r : Option NoteTree) → Holds v (result_rows holes names at t n r) → ResultMatches (λ k. replace v (names k)) r (put v t)
+        pub result_sound : (at : ℕ) (t : TypeTree) (n : ℕ) (r : Option NoteTree) → Holds v (result_rows holes names at t n r) → ResultMatches (λ k. replace v (names k)) r (put v t)
         result_sound at t n None h = tt
         result_sound at t n (Some m) h = subst (Matches (λ k. replace v (names k)) m) (sym (same_from_rows v at t (noted_type holes names n m) h)) (note_sound v holes names n m)
 
-        own_result_sound : (at : ℕ) (t : TypeTree) (n : ℕ) (r : Option NoteTree) → Holds v (result_rows holes names at t n r) → IsSome r → put v t ≡ put v (noted_result holes names n r)
+        pub own_result_sound : (at : ℕ) (t : TypeTree) (n : ℕ) (r : Option NoteTree) → Holds v (result_rows holes names at t n r) → IsSome r → put v t ≡ put v (noted_result holes names n r)
         own_result_sound at t n None h m = absurd (cc m)
         own_result_sound at t n (Some k) h m = same_from_rows v at t (noted_type holes names n k) h
 
@@ -157,7 +157,7 @@ module _ (earlier : Earlier) (schemes : List SchemeTree) (i : ℕ) (fit : AllFit
 
       -- ---- complete
       module _ (v choice : ℕ → PowerMap) (same : (k : ℕ) → replace v (names k) ≡ choice k) where
-        params_complete : (n : ℕ) (ms : List NoteTree) (ts : List TypeTree) (h : TypesMatch choice ms ts) → HolesAre v holes names choice same n (notes_holes ms) (notes_used choice ms ts h) → map (put v) (noted_types holes names n ms) ≡ ts
+        pub params_complete : (n : ℕ) (ms : List NoteTree) (ts : List TypeTree) (h : TypesMatch choice ms ts) → HolesAre v holes names choice same n (notes_holes ms) (notes_used choice ms ts h) → map (put v) (noted_types holes names n ms) ≡ ts
         params_complete n [] ts h a = sym h
         params_complete n (m ∷ ms) ts h a =
             let s = λ (k : ℕ). replace v (holes k) in
@@ -167,7 +167,7 @@ module _ (earlier : Earlier) (schemes : List SchemeTree) (i : ℕ) (fit : AllFit
             let rest = params_complete (n + note_holes m) ms h.1 h.3 (agrees_second s n (note_holes m) (notes_holes ms) u w a) in
             (λ i. head i ∷ rest i) ∙ sym h.4
 
-        result_complete : (n : ℕ) (r : Option NoteTree) (t : TypeTree) (h : ResultMatches choice r t) → HolesAre v holes names choice same n (result_holes r) (result_used choice r t h) → put v (noted_result holes names n r) ≡ own_result r t
+        pub result_complete : (n : ℕ) (r : Option NoteTree) (t : TypeTree) (h : ResultMatches choice r t) → HolesAre v holes names choice same n (result_holes r) (result_used choice r t h) → put v (noted_result holes names n r) ≡ own_result r t
         result_complete n None t h a = refl
         result_complete n (Some m) t h a = note_complete v holes names choice same n m t h a
 

@@ -6,7 +6,7 @@ use Rattle.um_units.specs.PowerMap.{PowerMap, replace, nth}
 use Rattle.um_units.specs.Variables.{VariablesBelow}
 use Rattle.um_units.specs.Solutions.{IsJointSolution, IsSolvable}
 use Rattle.um_units.proofs.Replacement.{nth-map}
-use Rattle.um_units.proofs.Solutions.{IsInstance_refl, Solves-append, Solves-front, Solves-back}
+use Rattle.um_units.proofs.Solutions.{IsSubstitutionInstance_refl, Solves-append, Solves-front, Solves-back}
 use Rattle.um_tree.specs.ProgramTree.{RecordTree, FunctionTree, ProgramTree, Signature, SchemeTree}
 use Rattle.um_tree.specs.Typing.{put_signature, moved_signature, Earlier, IsRigidTypingOf, IsTypingOf, TypingAt, typings_below, Typing}
 use Rattle.um_tree.specs.Scheme.{IsInstance, IsNumberedScheme}
@@ -62,13 +62,13 @@ module _ (earlier : Earlier) (schemes : List SchemeTree) (i : ℕ) (fit : AllFit
       × ((g : Signature) → IsTypingOf bases records earlier i f g → ⊥)
 
   -- ---- rigid joint solutions are the joint solutions of the parameters' equations and the rows
-  rigid_joint : (units : List PowerMap) → IsSolution records schemes i f units → IsRigid bases f.units units → IsJointSolution n (given ++ units_of rows) units
+  pub rigid_joint : (units : List PowerMap) → IsSolution records schemes i f units → IsRigid bases f.units units → IsJointSolution n (given ++ units_of rows) units
   rigid_joint units h fixed = record {
     per_slot = h.per_slot;
     solves = Solves-append (nth units) given (units_of rows) (rows_solved bases f.units (nth units) 0 f.units (λ k low high. fixed k (omega (arith, high)))) h.solves;
   }
 
-  joint_rigid : (units : List PowerMap) → IsJointSolution n (given ++ units_of rows) units → IsSolution records schemes i f units × IsRigid bases f.units units
+  pub joint_rigid : (units : List PowerMap) → IsJointSolution n (given ++ units_of rows) units → IsSolution records schemes i f units × IsRigid bases f.units units
   joint_rigid units h = (
     record { per_slot = h.per_slot; solves = Solves-back (nth units) given (units_of rows) h.solves },
     λ k low. fixed_by_rows bases f.units (nth units) (Solves-front (nth units) given (units_of rows) h.solves) k low,
@@ -80,7 +80,7 @@ module _ (earlier : Earlier) (schemes : List SchemeTree) (i : ℕ) (fit : AllFit
     solved_types = put_signature (nth units) sig
 
     long : length units ≡ n
-    long = ((exact units).0 (IsInstance_refl units)).per_slot
+    long = ((exact units).0 (IsSubstitutionInstance_refl units)).per_slot
 
     types_below : SignatureBelow n solved_types
     types_below = signature_put_below n units below sig (subst (λ m. SignatureBelow m sig) (sym long) (slots_below earlier schemes i fit records f).0)
@@ -101,7 +101,7 @@ module _ (earlier : Earlier) (schemes : List SchemeTree) (i : ℕ) (fit : AllFit
     -- the signature itself is one
     solved_typed : IsRigidTypingOf bases records earlier i f solved_types
     solved_typed =
-        let h = joint_rigid units ((exact units).0 (IsInstance_refl units)) in
+        let h = joint_rigid units ((exact units).0 (IsSubstitutionInstance_refl units)) in
         (rigid_typings_are_solved earlier schemes i fit records f closed bases solved_types).1 (units, h.0, h.1, refl)
 
     pub scheme_says : (g : Signature) → IsTypingOf bases records earlier i f g ↔ IsInstance (numbered_scheme (generalised bases f.units n solved_types)) g
@@ -135,7 +135,7 @@ module _ (earlier : Earlier) (schemes : List SchemeTree) (i : ℕ) (fit : AllFit
   slots_say k at first (out_of_range row) right = tt
 
   -- ---- all together
-  low : All (VariablesBelow n) (units_of rows)
+  pub low : All (VariablesBelow n) (units_of rows)
   low = rows_all n (slot_equations records schemes i f).steps (slots_below earlier schemes i fit records f).1
 
   solving_says : (r : Solving) → IsRightFor n given rows r → Says (by_solving bases f.units n f.at sig rows r)

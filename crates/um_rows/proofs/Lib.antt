@@ -3,12 +3,12 @@ pub mod HeldSteps
 pub mod TypesAgainst
 pub mod PutTypes
 pub mod Variables
-mod SoundRules
+pub mod SoundRules
 pub mod Callees
 pub mod Sound
-mod CompleteRules
-mod PutLiterals
-mod Used
+pub mod CompleteRules
+pub mod PutLiterals
+pub mod Used
 pub mod Complete
 mod BelowRules
 pub mod Below
@@ -16,6 +16,7 @@ pub mod SlotLaws
 pub mod FunctionLaws
 mod VariableLists
 pub mod Solved
+pub mod NodesBelow
 pub mod SolvingLaws
 pub mod NumberedSchemes
 pub mod GeneralisedUnits
@@ -27,7 +28,10 @@ pub mod WalkLaws
 pub mod NodeLaws
 pub mod SliceLaws
 pub mod OfferLaws
+pub mod KeptParts
 pub mod WalkedParts
+pub mod NodeSteps
+pub mod KeptNodes
 pub mod SameDerivation
 pub mod EquationLaws
 pub mod BodyLaws

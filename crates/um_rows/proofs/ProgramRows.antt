@@ -22,6 +22,7 @@ use Rattle.um_tree.specs.Formed.{IsTypeIn, IsFieldType, IsFormed}
 use Rattle.um_tree.proofs.WrittenUnits.{formed_literals_are_closed}
 use Rattle.um_rows.specs.declared.row.Row.{Row}
 use Rattle.um_rows.specs.declared.row.Rows.{Rows}
+use Rattle.um_rows.specs.declared.nodes.TypedRows.{TypedRows}
 use Rattle.um_rows.specs.declared.row.RowStop.{RowStop}
 use Rattle.um_rows.specs.declared.row.RowStop.TheVariants as stop
 use Rattle.um_tree.proofs.Moved.{slice_get_moved}
@@ -31,6 +32,7 @@ use Rattle.um_rows.specs.Equations.{slot_equations}
 use Rattle.um_rows.specs.Solutions.{slot_signature, HaveSchemes}
 use Rattle.um_rows.specs.Closed.{AreClosedBefore, IsClosedRecord}
 use Rattle.um_rows.specs.Answers.{AreEquations, StopsFor, AreRowsOf, RowsStopFor, HaveVariablesBelow, rows_signature, IsGivenBy, IsRigidlyGivenBy, TypingsAreSolutionsOf, described}
+use Rattle.um_rows.specs.NodeTypes.{typed_nodes, function_nodes, AreNodesOf}
 use Rattle.um_rows.proofs.Variables.{TypesBelow}
 use Rattle.um_rows.proofs.VariableLists.{signature_below_from}
 use Rattle.um_rows.proofs.NodeLaws.{mapped_found}
@@ -73,6 +75,15 @@ abbrev pub IsAnswer : List Record → List SchemeTree → ℕ → Function → L
 IsAnswer records schemes i f params r =
     MatchResult r (AreEquations (map record_tree records) schemes i (described f.at f.recursive f.units (map note_tree params) (result_tree f.result) (expr_tree f.body)))
     (StopsFor (map record_tree records) schemes i (described f.at f.recursive f.units (map note_tree params) (result_tree f.result) (expr_tree f.body)))
+
+abbrev pub IsTypedAnswer : List Record → List SchemeTree → ℕ → Function → List Note → Result TypedRows RowStop → Type 0
+IsTypedAnswer records schemes i f params r =
+    MatchResult r (λ (typed : TypedRows). AreEquations (map record_tree records) schemes i (described f.at f.recursive f.units (map note_tree params) (result_tree f.result) (expr_tree f.body)) typed.rows)
+    (StopsFor (map record_tree records) schemes i (described f.at f.recursive f.units (map note_tree params) (result_tree f.result) (expr_tree f.body)))
+
+abbrev pub HaveNodes : List Record → List SchemeTree → ℕ → Function → List Note → Result TypedRows RowStop → Type 0
+HaveNodes records schemes i f params r =
+    IfOk r (λ (typed : TypedRows). typed_nodes typed.nodes ≡ function_nodes (map record_tree records) schemes i (described f.at f.recursive f.units (map note_tree params) (result_tree f.result) (expr_tree f.body)))
 
 -- ---- a function of the program
 module _ (p : Program) (formed : IsFormed (program_tree p)) (schemes : List SchemeTree) (i : ℕ) (f : Function) (there : slice_get p.functions.items.items i ≡ Some f) where
@@ -147,3 +158,15 @@ module _ (p : Program) (formed : IsFormed (program_tree p)) (schemes : List Sche
   pub rows_typings : (r : Result Rows RowStop) → IsAnswer p.records.items.items schemes i f f.params.items.items r → IfOk r (TypingsAreSolutionsOf (program_tree p) schemes i)
   rows_typings (Ok r) h = typings_of_function r h
   rows_typings (Err e) h = tt
+
+  pub typed_ok : (r : Result TypedRows RowStop) → IsTypedAnswer p.records.items.items schemes i f f.params.items.items r → IfOk r (λ (typed : TypedRows). AreRowsOf (program_tree p) schemes i typed.rows)
+  typed_ok (Ok typed) h = rows_of_function typed.rows h
+  typed_ok (Err e) h = tt
+
+  pub typed_err : (r : Result TypedRows RowStop) → IsTypedAnswer p.records.items.items schemes i f f.params.items.items r → IfErr r (RowsStopFor (program_tree p) schemes i)
+  typed_err (Ok typed) h = tt
+  typed_err (Err e) h = stops_of_function e h
+
+  pub nodes_ok : (r : Result TypedRows RowStop) → HaveNodes p.records.items.items schemes i f f.params.items.items r → IfOk r (λ (typed : TypedRows). AreNodesOf (program_tree p) schemes i typed.nodes)
+  nodes_ok (Ok typed) h = λ g e. subst (λ x. typed_nodes typed.nodes ≡ function_nodes (program_tree p).records schemes i x) (only g e) h
+  nodes_ok (Err e) h = tt

@@ -20,6 +20,7 @@ use Rattle.um_rows.specs.Derivation.{first_units, offered, derive, derive_all}
 use Rattle.um_slots.specs.Noted.{noted_unit, noted_units, noted_type, noted_types, noted_result}
 use Rattle.um_slots.specs.Callees.{callee, head_holes}
 use Rattle.um_rows.specs.Equations.{result_rows, own_signature, equations}
+use Rattle.um_rows.specs.NodeTypes.{derived_body}
 use Rattle.um_slots.specs.Keys.{Key, hole, name, hole_keys, unit_keys, units_keys, name_keys, note_keys, notes_keys, result_keys, expr_keys, exprs_keys, function_keys}
 use Rattle.um_rows.proofs.Variables.{CalleeBelow, signature_put_alike_below}
 
@@ -185,21 +186,36 @@ module _ (f g m q : ℕ → PowerMap) where
   same_rows at t n None h = refl
   same_rows at t n (Some x) h = ap (λ s. against at t s) (same_type n x h)
 
-  pub same_equations : (records : List RecordTree) (schemes : List SchemeTree) (i : ℕ) (fn : FunctionTree) → ((j : ℕ) → CalleeBelow (callee schemes i fn j)) → KeysAlike (function_keys records schemes i fn) → equations f m records schemes i fn ≡ equations g q records schemes i fn
-  same_equations records schemes i fn low k =
-      let head = notes_keys 0 fn.params in
-      let result = result_keys (notes_holes fn.params) fn.result in
-      let body = expr_keys records (callee schemes i fn) (head_holes fn) fn.body in
-      let text = alike_back (name_keys 0 fn.units) (head ++ (result ++ body)) k in
-      let behind = alike_back head (result ++ body) text in
-      let params = same_types 0 fn.params (alike_front head (result ++ body) text) in
-      let noted = alike_front result body behind in
-      let own : own_signature f m fn ≡ own_signature g q fn = λ j. record { params = params j; result = same_result (notes_holes fn.params) fn.result noted j } in
-      let whole : derive f m records (own_signature f m fn) (callee schemes i fn) (head_holes fn) (noted_types f m 0 fn.params) fn.body ≡ derive g q records (own_signature g q fn) (callee schemes i fn) (head_holes fn) (noted_types g q 0 fn.params) fn.body =
-      same_derived records (own_signature f m fn) (callee schemes i fn) low (head_holes fn) (noted_types f m 0 fn.params) fn.body (alike_back result body behind)
-      ∙ (λ j. derive g q records (own j) (callee schemes i fn) (head_holes fn) (params j) fn.body) in
-      λ j. record {
-        params = params j;
-        result = (whole j).type;
-        steps = types_at fn.at (params j ++ same_result (notes_holes fn.params) fn.result noted j ∷ []) ++ ((whole j).steps ++ same_rows fn.at (whole j).type (notes_holes fn.params) fn.result noted j);
-      }
+  module _ (records : List RecordTree) (schemes : List SchemeTree) (i : ℕ) (fn : FunctionTree) (low : (j : ℕ) → CalleeBelow (callee schemes i fn j)) (k : KeysAlike (function_keys records schemes i fn)) where
+    abbrev head : List Key
+    head = notes_keys 0 fn.params
+
+    abbrev noted_keys : List Key
+    noted_keys = result_keys (notes_holes fn.params) fn.result
+
+    abbrev body_keys : List Key
+    body_keys = expr_keys records (callee schemes i fn) (head_holes fn) fn.body
+
+    behind : KeysAlike (noted_keys ++ body_keys)
+    behind = alike_back head (noted_keys ++ body_keys) (alike_back (name_keys 0 fn.units) (head ++ (noted_keys ++ body_keys)) k)
+
+    noted : KeysAlike noted_keys
+    noted = alike_front noted_keys body_keys behind
+
+    same_params : noted_types f m 0 fn.params ≡ noted_types g q 0 fn.params
+    same_params = same_types 0 fn.params (alike_front head (noted_keys ++ body_keys) (alike_back (name_keys 0 fn.units) (head ++ (noted_keys ++ body_keys)) k))
+
+    same_own : own_signature f m fn ≡ own_signature g q fn
+    same_own = λ j. record { params = same_params j; result = same_result (notes_holes fn.params) fn.result noted j }
+
+    pub same_body : derived_body f m records schemes i fn ≡ derived_body g q records schemes i fn
+    same_body =
+        same_derived records (own_signature f m fn) (callee schemes i fn) low (head_holes fn) (noted_types f m 0 fn.params) fn.body (alike_back noted_keys body_keys behind)
+        ∙ (λ j. derive g q records (same_own j) (callee schemes i fn) (head_holes fn) (same_params j) fn.body)
+
+    pub same_equations : equations f m records schemes i fn ≡ equations g q records schemes i fn
+    same_equations = λ j. record {
+      params = same_params j;
+      result = (same_body j).type;
+      steps = types_at fn.at (same_params j ++ same_result (notes_holes fn.params) fn.result noted j ∷ []) ++ ((same_body j).steps ++ same_rows fn.at (same_body j).type (notes_holes fn.params) fn.result noted j);
+    }

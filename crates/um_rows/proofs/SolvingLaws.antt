@@ -6,7 +6,7 @@ use Rattle.std.proofs.lemmas.List.Elements.{All-nil, All-cons, All-head, All-tai
 use Rattle.um_units.specs.PowerMap.{PowerMap}
 use Rattle.um_units.specs.Variables.{VariablesBelow}
 use Rattle.um_units.specs.Solutions.{IsSolvable}
-use Rattle.um_units.proofs.Solutions.{IsInstance_refl, IsSolvable-front}
+use Rattle.um_units.proofs.Solutions.{IsSubstitutionInstance_refl, IsSolvable-front}
 use Rattle.um_elim.specs.Elimination.{Elimination, Solved, NoSolution, Range, eliminate}
 use Rattle.um_elim.specs.Instances.{SolvesExactly}
 use Rattle.um_elim.specs.Solution.{own_variables, rigid_units, parameter_rows}
@@ -52,7 +52,7 @@ solved_from slots given k done (r ∷ rows) us count l low exact below =
       splits = refl;
       index = count;
       place = refl;
-      solvable = (us, (exact us).0 (IsInstance_refl us));
+      solvable = (us, (exact us).0 (IsSubstitutionInstance_refl us));
       unsolvable = λ w. unsolvable-more slots (given ++ units_of done) r.unit us exact (refused_is_unsatisfiable us r.unit h e) (subst (IsSolvable slots) (sym (append_assoc given (units_of done) (r.unit ∷ []))) w);
     }
     found rest Range e = tt
@@ -78,7 +78,7 @@ unsolvable_rows slots given rows k at first h =
 
 -- the rows that are solved are solvable
 pub solvable_rows : (slots : ℕ) (rows : List Row) (us : List PowerMap) → IsRightFor slots [] rows (solved us) → IsSolvable slots (units_of rows)
-solvable_rows slots rows us right = (us, (right.0 us).0 (IsInstance_refl us))
+solvable_rows slots rows us right = (us, (right.0 us).0 (IsSubstitutionInstance_refl us))
 
 -- the first rows hold what all do
 pub first_rows_below : (n : ℕ) (rows : List Row) (k : ℕ) → All (VariablesBelow n) (units_of rows) → All (VariablesBelow n) (units_of (take k rows))

@@ -46,7 +46,7 @@ module _ (v holes names : ℕ → PowerMap) where
 
   module _ (records : List RecordTree) (self : Signature) where
     -- ---- calls
-    call_sound : (at n : ℕ) (c : Callee) (ts : List TypeTree) → Holds v (call_rule at (offered holes names records self (λ j. c) n c) ts).steps →
+    pub call_sound : (at n : ℕ) (c : Callee) (ts : List TypeTree) → Holds v (call_rule at (offered holes names records self (λ j. c) n c) ts).steps →
         Offers (put_signature v self) c (record { params = map (put v) ts; result = put v (call_rule at (offered holes names records self (λ j. c) n c) ts).type })
     call_sound at n (known_by s) ts h =
         let params = map (put (λ k. holes (n + k))) s.signature.params in

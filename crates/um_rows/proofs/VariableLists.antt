@@ -57,6 +57,10 @@ module _ (n : ℕ) where
   type_all (list_type t) low = type_all t low
   type_all (record_type r us) low = units_all us low
 
+  pub types_all : (ts : List TypeTree) → TypesBelow n ts → All (λ k. k < n) (variables ts)
+  types_all [] low = All-nil (λ k. k < n)
+  types_all (t ∷ ts) low = All-append (λ k. k < n) (type_variables t) (variables ts) (type_all t low.0) (types_all ts low.1)
+
   pub signature_all : (g : Signature) → SignatureBelow n g → All (λ k. k < n) (variables (signature_types g))
   signature_all g low = each g.params low.0
     where

@@ -1,6 +1,6 @@
 -- The walk over a body: what is left of it when the first parts were walked.
-use Rattle.std.proofs.Common.{◌≡◌, refl, sym, ap, subst, ◌∙◌, ℕ, zero, suc, ◌+◌, ◌<◌, ◌≤◌, List, [], ◌∷◌, ◌++◌, map, drop, length, get_or, Option, Some, None, Result, Ok, Err, arith}
-use Rattle.std.proofs.lemmas.List.{append_assoc, append-nil, map-append, drop_more}
+use Rattle.std.proofs.Common.{◌≡◌, refl, sym, ap, subst, ◌∙◌, ℕ, ◌+◌, ◌<◌, ◌≤◌, Bool, List, [], ◌∷◌, ◌++◌, map, length, get_or, Option, Some, None, Result, Ok, Err, arith}
+use Rattle.std.proofs.lemmas.List.{append_assoc, append-nil, map-append}
 use Rattle.um_units.specs.PowerMap.{nth}
 use Rattle.um_tree.specs.declared.types.Ty.{Ty}
 use Rattle.um_tree.specs.declared.program.Record.{Record}
@@ -8,16 +8,18 @@ use Rattle.um_tree.specs.declared.program.Scheme.{Scheme}
 use Rattle.um_tree.specs.declared.expression.Expr.{Expr}
 use Rattle.um_tree.specs.TypeTree.{TypeTree, type_tree}
 use Rattle.um_tree.specs.ProgramTree.{record_tree}
-use Rattle.um_tree.specs.ExprTree.{ExprTree, ExprTrees, none, more, expr_tree, in_order, bind}
+use Rattle.um_tree.specs.ExprTree.{ExprTree, expr_tree, in_order, bind}
 use Rattle.um_slots.specs.declared.context.Context.{Context}
 use Rattle.um_rows.specs.declared.progress.Progress.{Progress}
 use Rattle.um_rows.specs.declared.row.Row.{Row}
 use Rattle.um_rows.specs.declared.row.RowStop.{RowStop}
 use Rattle.um_rows.specs.declared.row.RowStop.TheVariants as stop
+use Rattle.um_rows.specs.NodeTypes.{TypedNode}
 use Rattle.um_rows.specs.Rules.{item, formed}
 use Rattle.um_rows.specs.Walk.{Walked, AllWalked, PairWalked, then, unless_past, node, pair}
 use Rattle.um_rows.specs.Reached.{StopsAs, IsReached}
 use Rattle.um_rows.specs.Body.{noted_signature, called, body_walk, body_walk_pair, body_walk_all, body_holes, bodies_holes}
+use Rattle.um_rows.specs.Kept.{kept_then, body_kept, body_all_kept}
 use Rattle.um_slots.proofs.Parts.{from, from_more, from_end}
 use Rattle.um_rows.proofs.WalkLaws.{walk-is}
 
@@ -101,36 +103,39 @@ module _ (records : List Record) (schemes : List Scheme) (c : Context) where
       let last = both.same_holes in
       omega (arith, first, second, last, room)
 
-  -- the first i expressions have these types, and the scope is as it was
-  pub record IsLeft (rows : List Row) (n : ℕ) (vars : List Ty) (es : List Expr) (i : ℕ) (types scope : List Ty) (new : Progress) : Type 0 where
+  -- the first i expressions have these types, the scope is as it was, and these nodes are kept after those at the start
+  pub record IsLeft (asked : Bool) (start : List TypedNode) (rows : List Row) (n : ℕ) (vars : List Ty) (es : List Expr) (i : ℕ) (types scope : List Ty) (new : Progress) (nodes : List TypedNode) : Type 0 where
     pub whole : body_walk_all records schemes c rows n (map type_tree vars) (from es 0) ≡ after_these (map type_tree types) (body_walk_all records schemes c new.rows.items new.holes (map type_tree vars) (from es i))
     pub room : new.holes + bodies_holes records schemes c (from es i) ≤ length c.holes.items
     pub same_scope : scope ≡ vars
+    pub nodes_left : start ++ body_all_kept asked records schemes c rows n (map type_tree vars) (from es 0) ≡ nodes ++ body_all_kept asked records schemes c new.rows.items new.holes (map type_tree vars) (from es i)
 
-  module _ (rows : List Row) (n : ℕ) (vars : List Ty) (es : List Expr) where
-    pub left_first : (p : Progress) → p.rows.items ≡ rows → p.holes ≡ n → n + bodies_holes records schemes c (in_order (map expr_tree es)) ≤ length c.holes.items → IsLeft rows n vars es 0 [] vars p
+  module _ (asked : Bool) (start : List TypedNode) (rows : List Row) (n : ℕ) (vars : List Ty) (es : List Expr) where
+    pub left_first : (p : Progress) → p.rows.items ≡ rows → p.holes ≡ n → n + bodies_holes records schemes c (in_order (map expr_tree es)) ≤ length c.holes.items → IsLeft asked start rows n vars es 0 [] vars p start
     left_first p r m h = record {
       whole = none_before (body_walk_all records schemes c rows n (map type_tree vars) (from es 0)) ∙ (λ i. after_these [] (body_walk_all records schemes c (sym r i) (sym m i) (map type_tree vars) (from es 0)));
       room = subst (λ k. k + bodies_holes records schemes c (from es 0) ≤ length c.holes.items) (sym m) h;
       same_scope = refl;
+      nodes_left = λ i. start ++ body_all_kept asked records schemes c (sym r i) (sym m i) (map type_tree vars) (from es 0);
     }
 
-    pub room_at : (i : ℕ) (e : Expr) (types scope : List Ty) (p : Progress) → i < length es → e ≡ get_or es i e → IsLeft rows n vars es i types scope p → p.holes + (body_holes records schemes c (expr_tree e) + bodies_holes records schemes c (from es (i + 1))) ≤ length c.holes.items
-    room_at i e types scope p h s l = subst (λ xs. p.holes + bodies_holes records schemes c xs ≤ length c.holes.items) (from_more es i e h s) l.room
+    pub room_at : (i : ℕ) (e : Expr) (types scope : List Ty) (p : Progress) (nodes : List TypedNode) → i < length es → e ≡ get_or es i e → IsLeft asked start rows n vars es i types scope p nodes → p.holes + (body_holes records schemes c (expr_tree e) + bodies_holes records schemes c (from es (i + 1))) ≤ length c.holes.items
+    room_at i e types scope p nodes h s l = subst (λ xs. p.holes + bodies_holes records schemes c xs ≤ length c.holes.items) (from_more es i e h s) l.room
 
-    pub room_now : (i : ℕ) (e : Expr) (types scope : List Ty) (p : Progress) → i < length es → e ≡ get_or es i e → IsLeft rows n vars es i types scope p → p.holes + body_holes records schemes c (expr_tree e) ≤ length c.holes.items
-    room_now i e types scope p h s l = let room = room_at i e types scope p h s l in omega (arith, room)
+    pub room_now : (i : ℕ) (e : Expr) (types scope : List Ty) (p : Progress) (nodes : List TypedNode) → i < length es → e ≡ get_or es i e → IsLeft asked start rows n vars es i types scope p nodes → p.holes + body_holes records schemes c (expr_tree e) ≤ length c.holes.items
+    room_now i e types scope p nodes h s l = let room = room_at i e types scope p nodes h s l in omega (arith, room)
 
     -- the walk of the next one stops the whole, or is one more type
-    pub left_stops : (i : ℕ) (e : Expr) (types scope : List Ty) (p : Progress) (x : RowStop) → i < length es → e ≡ get_or es i e → IsLeft rows n vars es i types scope p →
+    pub left_stops : (i : ℕ) (e : Expr) (types scope : List Ty) (p : Progress) (nodes : List TypedNode) (x : RowStop) → i < length es → e ≡ get_or es i e → IsLeft asked start rows n vars es i types scope p nodes →
         StopsAs (body_walk records schemes c p.rows.items p.holes (map type_tree scope) (expr_tree e)) x → StopsAs (body_walk_all records schemes c rows n (map type_tree vars) (from es 0)) x
-    left_stops i e types scope p x h g l f =
+    left_stops i e types scope p nodes x h g l f =
         subst (λ m. StopsAs m x) (sym (l.whole ∙ ap (λ r. after_these (map type_tree types) (body_walk_all records schemes c p.rows.items p.holes (map type_tree vars) r)) (from_more es i e h g)))
         (stops_after (map type_tree types) _ x (stops_first _ _ x (subst (λ vs. StopsAs (body_walk records schemes c p.rows.items p.holes (map type_tree vs) (expr_tree e)) x) l.same_scope f)))
 
-    pub left_next : (i : ℕ) (e : Expr) (types scope other : List Ty) (p new : Progress) (t : Ty) → i < length es → e ≡ get_or es i e → IsLeft rows n vars es i types scope p →
-        body_walk records schemes c p.rows.items p.holes (map type_tree scope) (expr_tree e) ≡ Ok (record { type = type_tree t; rows = new.rows.items; holes = new.holes }) → other ≡ scope → IsLeft rows n vars es (i + 1) (types ++ t ∷ []) other new
-    left_next i e types scope other p new t h g l is same =
+    pub left_next : (i : ℕ) (e : Expr) (types scope other : List Ty) (p new : Progress) (nodes later : List TypedNode) (t : Ty) → i < length es → e ≡ get_or es i e → IsLeft asked start rows n vars es i types scope p nodes →
+        body_walk records schemes c p.rows.items p.holes (map type_tree scope) (expr_tree e) ≡ Ok (record { type = type_tree t; rows = new.rows.items; holes = new.holes }) → other ≡ scope →
+        later ≡ nodes ++ body_kept asked records schemes c p.rows.items p.holes (map type_tree scope) (expr_tree e) → IsLeft asked start rows n vars es (i + 1) (types ++ t ∷ []) other new later
+    left_next i e types scope other p new nodes later t h g l is same keeps =
         let here : body_walk records schemes c p.rows.items p.holes (map type_tree vars) (expr_tree e) ≡ Ok (record { type = type_tree t; rows = new.rows.items; holes = new.holes }) = ap (λ vs. body_walk records schemes c p.rows.items p.holes (map type_tree vs) (expr_tree e)) (sym l.same_scope) ∙ is in
         record {
           whole =
@@ -139,14 +144,27 @@ module _ (records : List Record) (schemes : List Scheme) (c : Context) where
               ∙ ap (λ m. after_these (map type_tree types) (then m (λ (w : Walked). then (body_walk_all records schemes c w.rows w.holes (map type_tree vars) (from es (i + 1))) (λ v. Ok (record { types = w.type ∷ v.types; rows = v.rows; holes = v.holes }))))) here
               ∙ one_more (map type_tree types) (type_tree t) (body_walk_all records schemes c new.rows.items new.holes (map type_tree vars) (from es (i + 1)))
               ∙ ap (λ ts. after_these ts (body_walk_all records schemes c new.rows.items new.holes (map type_tree vars) (from es (i + 1)))) (sym (map-append type_tree types (t ∷ [])));
-          room = room_behind p.rows.items p.holes (map type_tree scope) (expr_tree e) (record { type = type_tree t; rows = new.rows.items; holes = new.holes }) (bodies_holes records schemes c (from es (i + 1))) (length c.holes.items) is (room_at i e types scope p h g l);
+          room = room_behind p.rows.items p.holes (map type_tree scope) (expr_tree e) (record { type = type_tree t; rows = new.rows.items; holes = new.holes }) (bodies_holes records schemes c (from es (i + 1))) (length c.holes.items) is (room_at i e types scope p nodes h g l);
           same_scope = same ∙ l.same_scope;
+          nodes_left =
+              let rest = body_all_kept asked records schemes c new.rows.items new.holes (map type_tree vars) (from es (i + 1)) in
+              let own = body_kept asked records schemes c p.rows.items p.holes (map type_tree vars) (expr_tree e) in
+              let kept_here : later ≡ nodes ++ own = keeps ∙ ap (λ vs. nodes ++ body_kept asked records schemes c p.rows.items p.holes (map type_tree vs) (expr_tree e)) l.same_scope in
+              l.nodes_left
+              ∙ ap (λ r. nodes ++ body_all_kept asked records schemes c p.rows.items p.holes (map type_tree vars) r) (from_more es i e h g)
+              ∙ ap (λ m. nodes ++ (own ++ kept_then m (λ (w : Walked). body_all_kept asked records schemes c w.rows w.holes (map type_tree vars) (from es (i + 1))))) here
+              ∙ sym (append_assoc nodes own rest)
+              ∙ ap (λ xs. xs ++ rest) (sym kept_here);
         }
 
-    pub left_last : (i : ℕ) (types scope : List Ty) (p : Progress) → length es ≤ i → IsLeft rows n vars es i types scope p → body_walk_all records schemes c rows n (map type_tree vars) (in_order (map expr_tree es)) ≡ Ok (record { types = map type_tree types; rows = p.rows.items; holes = p.holes })
-    left_last i types scope p h l =
+    pub left_last : (i : ℕ) (types scope : List Ty) (p : Progress) (nodes : List TypedNode) → length es ≤ i → IsLeft asked start rows n vars es i types scope p nodes → body_walk_all records schemes c rows n (map type_tree vars) (in_order (map expr_tree es)) ≡ Ok (record { types = map type_tree types; rows = p.rows.items; holes = p.holes })
+    left_last i types scope p nodes h l =
         l.whole ∙ ap (λ r. after_these (map type_tree types) (body_walk_all records schemes c p.rows.items p.holes (map type_tree vars) r)) (from_end es i h)
         ∙ (λ j. Ok (record { types = append-nil (map type_tree types) j; rows = p.rows.items; holes = p.holes }))
+
+    pub left_kept : (i : ℕ) (types scope : List Ty) (p : Progress) (nodes : List TypedNode) → length es ≤ i → IsLeft asked start rows n vars es i types scope p nodes → nodes ≡ start ++ body_all_kept asked records schemes c rows n (map type_tree vars) (in_order (map expr_tree es))
+    left_kept i types scope p nodes h l =
+        sym (l.nodes_left ∙ ap (λ r. nodes ++ body_all_kept asked records schemes c p.rows.items p.holes (map type_tree vars) r) (from_end es i h) ∙ append-nil nodes)
 
   -- ---- a variable comes into scope: where the part behind it stops, the whole does
   module _ (rows : List Row) (n : ℕ) (vars : List Ty) (new : Progress) (r : Result Ty RowStop) where

@@ -1,6 +1,6 @@
 -- What the equations come to: how they say which typings a function has. The definitions do not rest on this.
 -- Source: Kennedy (1996): the inference of units is sound and complete.
-use Rattle.std.specs.Prelude.{◌≡◌, ◌↔◌, ℕ, ◌<◌, All, List, [], length, Some, slice_get}
+use Rattle.std.specs.Prelude.{◌≡◌, ◌↔◌, ℕ, ◌<◌, All, List, [], length, map, Some, slice_get}
 use Rattle.um_units.specs.Variables.{VariablesBelow}
 use Rattle.um_units.specs.Solutions.{IsSolvable}
 use Rattle.um_tree.specs.ProgramTree.{RecordTree, FunctionTree, ProgramTree, Signature, SchemeTree}
@@ -20,6 +20,7 @@ use Rattle.um_rows.specs.Solutions.{function_rows, slot_signature, IsSolved, IsR
 use Rattle.um_rows.specs.FirstUnsolvable.{IsFirstUnsolvable, rows_up_to}
 use Rattle.um_slots.specs.CallFunction.{call_function}
 use Rattle.um_rows.specs.Judgement.{has_scheme, has_no_typing, not_general, judge}
+use Rattle.um_rows.specs.NodeTypes.{TypedNode, function_nodes}
 use Rattle.um_rows.specs.RightShapes.{HaveRightShapes}
 
 -- a signature is a loose typing of function i, whose literals are closed, exactly if some joint solution of the
@@ -48,6 +49,13 @@ abbrev pub TypesHoldSlots : Type 0
 TypesHoldSlots =
     (p : ProgramTree) (schemes : List SchemeTree) (i : ℕ) (f : FunctionTree) → HaveSchemes p schemes i →
     All (λ k. k < slot_count p.records schemes i f) (variables (signature_types (slot_signature p.records schemes i f)))
+
+-- and so do the types of the nodes
+abbrev pub NodesHoldSlots : Type 0
+NodesHoldSlots =
+    (p : ProgramTree) (schemes : List SchemeTree) (i : ℕ) (f : FunctionTree) → HaveSchemes p schemes i →
+    All (λ k. k < slot_count p.records schemes i f)
+    (variables (map (λ (n : TypedNode). n.type) (function_nodes p.records schemes i f)))
 
 -- ---- judgements
 

@@ -1,5 +1,5 @@
 -- What a reader must trust, in reading order: rows, the rules of nodes, the equations of a function, solutions, what a
--- function is answered.
+-- function is answered, the types of its nodes.
 pub mod Steps
 pub mod Against
 pub mod Rules
@@ -10,6 +10,7 @@ pub mod FirstUnsolvable
 pub mod Generalised
 pub mod Judgement
 pub mod RightShapes
+pub mod NodeTypes
 pub mod Answers
 -- What the definitions come to: statements, each proved as the contract of a function of src/laws.rt.
 pub mod Laws
@@ -21,3 +22,4 @@ pub mod Reached
 pub mod SlotStops
 pub mod Closed
 pub mod Body
+pub mod Kept

@@ -1,6 +1,6 @@
 //! The equations of a function, from its parts.
 
-ghost use Rattle.std.specs.Prelude.{◌≡◌, ◌+◌, ◌≤◌, ◌&&◌, is_some, All, MatchResult, length, map};
+ghost use Rattle.std.specs.Prelude.{◌≡◌, ◌+◌, ◌≤◌, ◌&&◌, is_some, All, IfOk, IsTrue, MatchResult, length, map};
 ghost use Rattle.um_tree.specs.TypeTree.{type_tree};
 ghost use Rattle.um_tree.specs.ExprTree.{expr_tree};
 ghost use Rattle.um_tree.specs.ProgramTree.{record_tree, scheme_tree, result_tree};
@@ -9,8 +9,10 @@ ghost use Rattle.um_rows.specs.Pushed.{ArePushed, StopsPast};
 ghost use Rattle.um_rows.specs.Closed.{AreClosedBefore, IsClosedRecord};
 ghost use Rattle.um_rows.specs.Body.{AreBodyRows, noted_rows, holes_in, walk_derived, walk_steps};
 ghost use Rattle.um_rows.specs.Answers.{defined, AreEquations, StopsFor};
+ghost use Rattle.um_rows.specs.NodeTypes.{typed_nodes, derived_nodes, function_nodes};
 
 use crate::against::against;
+use crate::nodes::{NodeTypes, TypedRows};
 use crate::progress::{Progress, State};
 use crate::row::{Row, RowList, RowStop, Rows};
 use crate::walk::derive;
@@ -40,14 +42,22 @@ fn note_against(
     }
 }
 
-/// The equations of the function's body, with so many slots and so many holes before it.
-fn body_rows(walk: &Walk, slots: u32, head: usize, definition: &Definition) -> Result<Rows, RowStop>
+/// The equations of the function's body, with so many slots and so many holes before it, and the types of its nodes if
+/// the walk keeps them.
+fn body_rows(
+    walk: &Walk,
+    slots: u32,
+    head: usize,
+    definition: &Definition,
+) -> Result<TypedRows, RowStop>
     requires room { head + holes_in walk.now (expr_tree definition.now.body.now)
         ≤ length walk.now.context.holes.items }
-    ensures { MatchResult result
-        (AreBodyRows (walk_steps walk.now head definition.now) (walk_derived walk.now head definition.now)
-        (map type_tree walk.now.context.params.items) slots)
+    ensures rows { MatchResult result
+        (λ typed. AreBodyRows (walk_steps walk.now head definition.now) (walk_derived walk.now head definition.now)
+        (map type_tree walk.now.context.params.items) slots typed.rows)
         (StopsPast (first_past (walk_steps walk.now head definition.now))) }
+    ensures nodes { IsTrue walk.now.keep → IfOk result (λ typed. typed_nodes typed.nodes
+        ≡ derived_nodes (walk_derived walk.now head definition.now)) }
 {
     let alloc = walk.alloc;
     let context = &walk.context;
@@ -57,21 +67,31 @@ fn body_rows(walk: &Walk, slots: u32, head: usize, definition: &Definition) -> R
         rows: Vec::new(alloc),
         holes: head,
     };
-    let mut state = State { scope, progress };
+    let kept = Vec::new(alloc);
+    let mut state = State {
+        scope,
+        progress,
+        kept,
+    };
     let result = derive(walk, definition.body, &mut state)?;
     let State {
         scope,
         mut progress,
+        kept,
     } = state;
     let rows = &mut progress.rows;
     note_against(alloc, at, &result, &context.result, definition.result, rows)?;
-    Ok(Rows {
+    let rows = Rows {
         slots,
         list: RowList {
             items: progress.rows,
         },
         params: Types { items: scope },
         result,
+    };
+    Ok(TypedRows {
+        rows,
+        nodes: NodeTypes { items: kept },
     })
 }
 
@@ -95,6 +115,34 @@ pub(crate) fn equations(
     ensures { MatchResult result
         (AreEquations (map record_tree records.now) (map scheme_tree schemes.now) number (defined definition.now))
         (StopsFor (map record_tree records.now) (map scheme_tree schemes.now) number (defined definition.now)) }
+{
+    match typed_equations(alloc, records, schemes, number, definition, false) {
+        Ok(TypedRows { rows, nodes }) => {
+            drop(nodes);
+            Ok(rows)
+        }
+        Err(stop) => Err(stop),
+    }
+}
+
+/// The equations of the function of this number, with the types of its body's nodes if `keep` asks for them.
+pub(crate) fn typed_equations(
+    alloc: Global,
+    records: &[Record],
+    schemes: &[Scheme],
+    number: u32,
+    definition: &Definition,
+    keep: bool,
+) -> Result<TypedRows, RowStop>
+    requires schemes { AreClosedBefore number schemes.now }
+    requires records { All IsClosedRecord records.now }
+    ensures equations { MatchResult result
+        (λ typed. AreEquations (map record_tree records.now) (map scheme_tree schemes.now) number
+        (defined definition.now) typed.rows)
+        (StopsFor (map record_tree records.now) (map scheme_tree schemes.now) number (defined definition.now)) }
+    ensures nodes { IsTrue keep → IfOk result (λ typed. typed_nodes typed.nodes
+        ≡ function_nodes (map record_tree records.now) (map scheme_tree schemes.now) number
+        (defined definition.now)) }
 {
     let recurs = may_recur(definition.recursive, definition.result);
     let environment = Environment {
@@ -122,6 +170,7 @@ pub(crate) fn equations(
                 records,
                 schemes,
                 context,
+                keep,
             };
             let rows = body_rows(&walk, count, head, definition);
             drop(walk);

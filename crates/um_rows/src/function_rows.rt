@@ -3,8 +3,10 @@
 ghost use Rattle.std.specs.Prelude.{◌≡◌, ◌<◌, IfOk, IfErr, length, map};
 ghost use Rattle.um_tree.specs.ProgramTree.{program_tree, scheme_tree};
 ghost use Rattle.um_rows.specs.Answers.{AreRowsOf, RowsStopFor, HaveVariablesBelow, TypingsAreSolutionsOf};
+ghost use Rattle.um_rows.specs.NodeTypes.{AreNodesOf};
 
-use crate::equations::equations;
+use crate::equations::{equations, typed_equations};
+use crate::nodes::TypedRows;
 use crate::row::{RowStop, Rows};
 use std::alloc::Global;
 use um_shape::Shaped;
@@ -43,5 +45,43 @@ pub fn rows(alloc: Global, shaped: &Shaped, i: u32, schemes: &Schemes) -> Result
         &schemes.items,
         i,
         &definition,
+    )
+}
+
+/// The equations of function `i` as `rows` gives them, with the types of all nodes of its body over the same slots.
+///
+/// The nodes come in the order in which the rules are followed, each after its parts (Kennedy 1996, the inference of
+/// units). The errors are those of `rows`.
+pub fn typed_rows(
+    alloc: Global,
+    shaped: &Shaped,
+    i: u32,
+    schemes: &Schemes,
+) -> Result<TypedRows, RowStop>
+    requires function { i < length (program_tree shaped.now).functions }
+    requires schemes { HaveVariablesBelow i (map scheme_tree schemes.now.items.items) }
+    ensures equations { IfOk result (λ typed. AreRowsOf (program_tree shaped.now)
+        (map scheme_tree schemes.now.items.items) i typed.rows) }
+    ensures stops { IfErr result (RowsStopFor (program_tree shaped.now) (map scheme_tree schemes.now.items.items) i) }
+    ensures nodes { IfOk result (λ typed. AreNodesOf (program_tree shaped.now)
+        (map scheme_tree schemes.now.items.items) i typed.nodes) }
+{
+    let program = shaped.program();
+    let function = &program.functions.items[i as usize];
+    let definition = Definition {
+        at: function.at,
+        recursive: function.recursive,
+        units: function.units,
+        params: &function.params.items,
+        result: &function.result,
+        body: &function.body,
+    };
+    typed_equations(
+        alloc,
+        &program.records.items,
+        &schemes.items,
+        i,
+        &definition,
+        true,
     )
 }

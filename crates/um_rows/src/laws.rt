@@ -4,6 +4,7 @@ ghost use Rattle.um_rows.specs.Laws.{
   RigidTypingsAreSolutions,
   RowsHoldSlots,
   TypesHoldSlots,
+  NodesHoldSlots,
   JudgedSchemesArePrincipal,
   JudgedUntypedHaveNone,
   JudgedNotGeneralHaveNone,
@@ -21,10 +22,11 @@ pub fn typings_are_solutions()
     ensures rigid { RigidTypingsAreSolutions }
 {}
 
-/// The rows of a function hold its slots alone, and so do its types.
+/// The rows of a function hold its slots alone, and so do its types and those of its nodes.
 pub fn slots_of_equations()
     ensures rows { RowsHoldSlots }
     ensures types { TypesHoldSlots }
+    ensures nodes { NodesHoldSlots }
 {}
 
 /// The scheme that a function is judged to have is numbered, and its instances are exactly the function's typings. A

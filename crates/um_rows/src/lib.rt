@@ -7,6 +7,7 @@
 //! ```
 //! let equations = rows(alloc, &shaped, f, &schemes)?; // schemes of the functions before f
 //! for row in &equations.list.items { .. } // row.unit is to be 1, as the text asks at row.at
+//! let typed = typed_rows(alloc, &shaped, f, &schemes)?; // the same, with the type of each node of the body
 //! ```
 #![tactic(auto)]
 
@@ -17,6 +18,7 @@ mod function_calls;
 mod function_rows;
 pub mod laws;
 mod leaves;
+mod nodes;
 mod operations;
 mod progress;
 mod records;
@@ -27,5 +29,6 @@ mod walk;
 mod walker;
 
 pub use function_calls::call_rows;
-pub use function_rows::rows;
+pub use function_rows::{rows, typed_rows};
+pub use nodes::{NodeType, NodeTypes, TypedRows};
 pub use row::{Row, RowList, RowStop, Rows};

@@ -1,5 +1,6 @@
 //! Where a walk over a body stands.
 
+use crate::nodes::NodeType;
 use crate::row::Row;
 use um_tree::Ty;
 
@@ -10,11 +11,12 @@ pub(crate) struct Progress {
     pub(crate) holes: usize,
 }
 
-/// The types of the variables in scope, with the progress.
+/// The types of the variables in scope, with the progress and the types of nodes that are kept.
 #[derive(Drop)]
 pub(crate) struct State {
     pub(crate) scope: Vec<Ty>,
     pub(crate) progress: Progress,
+    pub(crate) kept: Vec<NodeType>,
 }
 
 /// The types of two parts.

@@ -11,7 +11,9 @@ ghost use Rattle.um_rows.specs.Walk.{part_node, pair_node};
 ghost use Rattle.um_rows.specs.Reached.{IsReached, AreReached, ArePairReached};
 ghost use Rattle.um_rows.specs.Body.{body_walk, walk_from, walk_pair_from, walk_all_from, holes_in, all_holes_in};
 ghost use Rattle.um_rows.specs.Body.{HasRoom};
+ghost use Rattle.um_rows.specs.Kept.{body_kept, kept_from, parts_kept_from, pair_kept_from, all_kept_from, Keeps};
 
+use crate::nodes::keep;
 use crate::operations::{Binary, Unary, binary_node, unary_node};
 use crate::progress::{Pair, State};
 use crate::row::RowStop;
@@ -31,16 +33,32 @@ fn item_of(alloc: Global, list: &Ty) -> Result<Ty, AllocError>
     }
 }
 
-/// The type of the expression over slots. Its rows are pushed, and its holes are counted.
+/// The type of the expression over slots. Its rows are pushed, and its holes are counted. If the walk keeps the types of
+/// nodes, those of the parts and the expression's own are kept.
 ///
 /// If there is a type the scope is as before.
-// What has parts is a function of its own, not inlined, so that a node sets no locals of the others to nothing.
 #[cycle(walk)]
 pub(crate) fn derive(walk: &Walk, e: &Expr, state: &mut State) -> Result<Ty, RowStop>
     requires room { HasRoom walk.now state.old (holes_in walk.now (expr_tree e.now)) }
     ensures reached { IsReached (walk_from walk.now state.old (expr_tree e.now)) state.new.progress result }
     ensures fits { IfOk result (λ ty. IsTrue (type_fits (type_tree ty))) }
     ensures scope { IfOk result (λ _. state.new.scope.items ≡ state.old.scope.items) }
+    ensures kept { IfOk result (λ _. Keeps state.old state.new (kept_from walk.now state.old (expr_tree e.now))) }
+{
+    let ty = derive_node(walk, e, state)?;
+    keep(walk.alloc, walk.keep, e.at, ty, &mut state.kept)
+}
+
+/// The type of the expression over slots, of whose nodes those of the parts alone are kept.
+// What has parts is a function of its own, not inlined, so that a node sets no locals of the others to nothing.
+#[cycle(walk)]
+fn derive_node(walk: &Walk, e: &Expr, state: &mut State) -> Result<Ty, RowStop>
+    requires room { HasRoom walk.now state.old (holes_in walk.now (expr_tree e.now)) }
+    ensures reached { IsReached (walk_from walk.now state.old (expr_tree e.now)) state.new.progress result }
+    ensures fits { IfOk result (λ ty. IsTrue (type_fits (type_tree ty))) }
+    ensures scope { IfOk result (λ _. state.new.scope.items ≡ state.old.scope.items) }
+    ensures kept { IfOk result (λ _. Keeps state.old state.new
+        (parts_kept_from walk.now state.old (expr_tree e.now))) }
 {
     let alloc = walk.alloc;
     let at = e.at;
@@ -83,6 +101,8 @@ fn derive_unary(walk: &Walk, at: u32, op: Unary, a: &Expr, state: &mut State) ->
         (λ t. unary_rule (map record_tree walk.now.records.now) at op t)) state.new.progress result }
     ensures fits { IfOk result (λ ty. IsTrue (type_fits (type_tree ty))) }
     ensures scope { IfOk result (λ _. state.new.scope.items ≡ state.old.scope.items) }
+    ensures kept { IfOk result (λ _. Keeps state.old state.new
+        (kept_from walk.now state.old (expr_tree a.now))) }
 {
     let part = derive(walk, a, state)?;
     unary_node(walk, at, op, part, &mut state.progress)
@@ -105,6 +125,8 @@ fn derive_binary(
         (λ s t. binary_rule at op s t)) state.new.progress result }
     ensures fits { IfOk result (λ ty. IsTrue (type_fits (type_tree ty))) }
     ensures scope { IfOk result (λ _. state.new.scope.items ≡ state.old.scope.items) }
+    ensures kept { IfOk result (λ _. Keeps state.old state.new
+        (pair_kept_from walk.now state.old (expr_tree a.now) (expr_tree b.now))) }
 {
     let parts = derive_pair(walk, a, b, state)?;
     binary_node(walk.alloc, at, op, parts, &mut state.progress)
@@ -120,6 +142,8 @@ fn derive_pair(walk: &Walk, a: &Expr, b: &Expr, state: &mut State) -> Result<Pai
     ensures first_fits { IfOk result (λ ts. IsTrue (type_fits (type_tree ts.first))) }
     ensures second_fits { IfOk result (λ ts. IsTrue (type_fits (type_tree ts.second))) }
     ensures scope { IfOk result (λ _. state.new.scope.items ≡ state.old.scope.items) }
+    ensures kept { IfOk result (λ _. Keeps state.old state.new
+        (pair_kept_from walk.now state.old (expr_tree a.now) (expr_tree b.now))) }
 {
     let first = derive(walk, a, state)?;
     match derive(walk, b, state) {
@@ -149,6 +173,8 @@ fn derive_if(
         state.new.progress result }
     ensures fits { IfOk result (λ ty. IsTrue (type_fits (type_tree ty))) }
     ensures scope { IfOk result (λ _. state.new.scope.items ≡ state.old.scope.items) }
+    ensures kept { IfOk result (λ _. Keeps state.old state.new
+        (parts_kept_from walk.now state.old (if at (expr_tree c.now) (expr_tree a.now) (expr_tree b.now)))) }
 {
     let test = derive(walk, c, state)?;
     match derive_pair(walk, a, b, state) {
@@ -175,6 +201,8 @@ fn derive_let(walk: &Walk, at: u32, a: &Expr, b: &Expr, state: &mut State) -> Re
         state.new.progress result }
     ensures fits { IfOk result (λ ty. IsTrue (type_fits (type_tree ty))) }
     ensures scope { IfOk result (λ _. state.new.scope.items ≡ state.old.scope.items) }
+    ensures kept { IfOk result (λ _. Keeps state.old state.new
+        (parts_kept_from walk.now state.old (bind at (expr_tree a.now) (expr_tree b.now)))) }
 {
     let bound = derive(walk, a, state)?;
     state.scope.push(bound)?;
@@ -201,6 +229,8 @@ fn derive_match(
         state.new.progress result }
     ensures fits { IfOk result (λ ty. IsTrue (type_fits (type_tree ty))) }
     ensures scope { IfOk result (λ _. state.new.scope.items ≡ state.old.scope.items) }
+    ensures kept { IfOk result (λ _. Keeps state.old state.new
+        (parts_kept_from walk.now state.old (split at (expr_tree l.now) (expr_tree a.now) (expr_tree b.now)))) }
 {
     let Pair {
         first: list,
@@ -230,6 +260,10 @@ fn derive_full(walk: &Walk, list: &Ty, e: &Expr, state: &mut State) -> Result<Ty
         ++ item (type_tree list.now) ∷ type_tree list.now ∷ []) (expr_tree e.now)) state.new.progress result }
     ensures fits { IfOk result (λ ty. IsTrue (type_fits (type_tree ty))) }
     ensures scope { IfOk result (λ _. state.new.scope.items ≡ state.old.scope.items) }
+    ensures kept { IfOk result (λ _. Keeps state.old state.new
+        (body_kept walk.now.keep walk.now.records.now walk.now.schemes.now walk.now.context
+        state.old.progress.rows.items state.old.progress.holes (map type_tree state.old.scope.items
+        ++ item (type_tree list.now) ∷ type_tree list.now ∷ []) (expr_tree e.now))) }
 {
     let head = item_of(walk.alloc, list)?;
     state.scope.push(head)?;
@@ -256,6 +290,8 @@ fn derive_call(
         state.new.progress result }
     ensures fits { IfOk result (λ ty. IsTrue (type_fits (type_tree ty))) }
     ensures scope { IfOk result (λ _. state.new.scope.items ≡ state.old.scope.items) }
+    ensures kept { IfOk result (λ _. Keeps state.old state.new
+        (parts_kept_from walk.now state.old (call at j (in_order (map expr_tree parts.now))))) }
 {
     let first = state.progress.holes;
     state.progress.holes += calls::open_units(walk, j);
@@ -274,6 +310,8 @@ fn derive_list(walk: &Walk, at: u32, parts: &[Expr], state: &mut State) -> Resul
         state.new.progress result }
     ensures fits { IfOk result (λ ty. IsTrue (type_fits (type_tree ty))) }
     ensures scope { IfOk result (λ _. state.new.scope.items ≡ state.old.scope.items) }
+    ensures kept { IfOk result (λ _. Keeps state.old state.new
+        (parts_kept_from walk.now state.old (list_expr at (in_order (map expr_tree parts.now))))) }
 {
     let types = derive_all(walk, parts, state)?;
     let whole = rules::list(walk.alloc, at, &types, &mut state.progress);
@@ -297,6 +335,8 @@ fn derive_record(
         state.new.progress result }
     ensures fits { IfOk result (λ ty. IsTrue (type_fits (type_tree ty))) }
     ensures scope { IfOk result (λ _. state.new.scope.items ≡ state.old.scope.items) }
+    ensures kept { IfOk result (λ _. Keeps state.old state.new
+        (parts_kept_from walk.now state.old (record_expr at r (in_order (map expr_tree parts.now))))) }
 {
     let first = state.progress.holes;
     state.progress.holes += record_units(walk.records, r);
@@ -313,6 +353,8 @@ fn derive_all(walk: &Walk, parts: &[Expr], state: &mut State) -> Result<Vec<Ty>,
     ensures reached { AreReached (λ types. map type_tree types.items)
         (walk_all_from walk.now state.old (in_order (map expr_tree parts.now))) state.new.progress result }
     ensures scope { IfOk result (λ _. state.new.scope.items ≡ state.old.scope.items) }
+    ensures kept { IfOk result (λ _. Keeps state.old state.new
+        (all_kept_from walk.now state.old (in_order (map expr_tree parts.now)))) }
 {
     let mut types = Vec::new(walk.alloc);
     for i in 0..parts.len() {

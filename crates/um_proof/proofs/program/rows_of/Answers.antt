@@ -2,8 +2,9 @@ use Rattle.std.proofs.Common.{sym, ◌∙◌, arith}
 use Rattle.um_tree.specs.ProgramTree.{program_tree}
 use Rattle.um_infer.specs.Answers.{scheme_trees}
 use Rattle.um_infer.proofs.SchemeLists.{item_at}
-use Rattle.um_proof.proofs.FunctionAnswers.{schemes_until}
-use Rattle.um_proof.proofs.FunctionRows.{own_variables_alone, are_function_rows}
+use Rattle.um_infer.proofs.Judged.{own_variables_alone}
+use Rattle.um_infer.proofs.SchemeJudgements.{schemes_until}
+use Rattle.um_proof.proofs.FunctionRows.{are_function_rows}
 use Rattle.um_proof.proofs.program.rows_of.Goals as goal
 
 pub rows-requires-clause-schemes : goal.rows-requires-clause-schemes

@@ -7,7 +7,8 @@ use Rattle.um_infer.specs.Answers.{scheme_trees}
 use Rattle.um_infer.proofs.SchemeLists.{item_at}
 use Rattle.um_rows.specs.Judgement.{has_scheme}
 use Rattle.um_proof.specs.Answers.{AreFunctionRows, judged, IsYesMade}
-use Rattle.um_proof.proofs.FunctionAnswers.{same_item, scheme_judgement, yes_judged, yes_valid, yes_range}
+use Rattle.um_infer.proofs.SchemeJudgements.{scheme_judgement, yes_judged}
+use Rattle.um_proof.proofs.FunctionAnswers.{same_item, yes_valid, yes_range}
 use Rattle.um_proof.proofs.program.yes_of.Goals as goal
 
 pub rows_of-requires-clause-function : goal.rows_of-requires-clause-function

@@ -4,7 +4,7 @@ use Rattle.um_units.specs.Variables.{VariablesBelow}
 use Rattle.um_rows.specs.declared.row.Row.{Row}
 use Rattle.um_rows.specs.Steps.{units_of}
 use Rattle.um_proof.specs.Answers.{judged}
-use Rattle.um_kept.specs.Making.{IsReached, first}
+use Rattle.um_kept.specs.Kept.{IsReached, first}
 use Rattle.um_kept.specs.Answers.{AreRefused, CarriesInRows}
 use Rattle.um_proof.proofs.Judged.{rows_low}
 use Rattle.um_proof.proofs.ValidNo.{rows_pass, never_made}

@@ -8,11 +8,12 @@ use Rattle.um_rows.specs.Walk.{AllWalked, node, part_node}
 use Rattle.um_rows.specs.Reached.{StopsAs, IsReached}
 use Rattle.um_slots.specs.Holes.{callee_holes}
 use Rattle.um_rows.specs.Body.{called, offer, body_walk, body_walk_pair, body_walk_all, body_holes}
+use Rattle.um_rows.specs.NodeTypes.{typed_node}
 use Rattle.um_rows.proofs.WalkedParts.{IsLeft, room_behind, room_behind_pair, left_next, reached_second, bind_stops, scope_of_split}
 use Rattle.um_rows.proofs.walk.+walk.Goals as goal
 
-pub derive-returns-in-Pow-clause-reached : goal.derive-returns-in-Pow-clause-reached
-derive-returns-in-Pow-clause-reached t c =
+pub derive_node-returns-in-Pow-clause-reached : goal.derive_node-returns-in-Pow-clause-reached
+derive_node-returns-in-Pow-clause-reached t c =
     let e = c.args.e.now in
     let records = c.args.walk.now.records.now in
     let schemes = c.args.walk.now.schemes.now in
@@ -25,32 +26,32 @@ derive-returns-in-Pow-clause-reached t c =
     let fits : SFits w32 k = search rules in
     rw seen (subst (λ i. IsReached (part_node (body_walk records schemes context p.rows.items p.holes vars a_is) (λ t. pown_rule e.at i t)) c.derive_unary-in-Pow.new.state.progress c.derive_unary-in-Pow.result) (to_z-of_z w32 k fits) c.derive_unary-in-Pow.ensures.reached)
 
-pub derive-returns-in-Arith-clause-reached : goal.derive-returns-in-Arith-clause-reached
-derive-returns-in-Arith-clause-reached t c =
+pub derive_node-returns-in-Arith-clause-reached : goal.derive_node-returns-in-Arith-clause-reached
+derive_node-returns-in-Arith-clause-reached t c =
     let e = c.args.e.now in
     let seen : expr_tree e ≡ arith_tree e.at c.in-Arith.op (expr_tree c.deref-in-Arith.result.now) (expr_tree c.deref-in-Arith-2.result.now) = search (rules, the_lemmas) in
     rw seen c.derive_binary.ensures.reached
 
-pub derive-returns-in-Compare-clause-reached : goal.derive-returns-in-Compare-clause-reached
-derive-returns-in-Compare-clause-reached t c =
+pub derive_node-returns-in-Compare-clause-reached : goal.derive_node-returns-in-Compare-clause-reached
+derive_node-returns-in-Compare-clause-reached t c =
     let e = c.args.e.now in
     let seen : expr_tree e ≡ compare e.at c.in-Compare.field-0 (expr_tree c.deref-in-Compare.result.now) (expr_tree c.deref-in-Compare-2.result.now) = search (rules, the_lemmas) in
     rw seen c.derive_binary-in-Compare.ensures.reached
 
-pub derive-returns-in-And-clause-reached : goal.derive-returns-in-And-clause-reached
-derive-returns-in-And-clause-reached t c =
+pub derive_node-returns-in-And-clause-reached : goal.derive_node-returns-in-And-clause-reached
+derive_node-returns-in-And-clause-reached t c =
     let e = c.args.e.now in
     let seen : expr_tree e ≡ both e.at (expr_tree c.deref-in-And.result.now) (expr_tree c.deref-in-And-2.result.now) = search (rules, the_lemmas) in
     rw seen c.derive_binary-in-And.ensures.reached
 
-pub derive-returns-in-Or-clause-reached : goal.derive-returns-in-Or-clause-reached
-derive-returns-in-Or-clause-reached t c =
+pub derive_node-returns-in-Or-clause-reached : goal.derive_node-returns-in-Or-clause-reached
+derive_node-returns-in-Or-clause-reached t c =
     let e = c.args.e.now in
     let seen : expr_tree e ≡ either e.at (expr_tree c.deref-in-Or.result.now) (expr_tree c.deref-in-Or-2.result.now) = search (rules, the_lemmas) in
     rw seen c.derive_binary-in-Or.ensures.reached
 
-pub derive-returns-in-Cons-clause-reached : goal.derive-returns-in-Cons-clause-reached
-derive-returns-in-Cons-clause-reached t c =
+pub derive_node-returns-in-Cons-clause-reached : goal.derive_node-returns-in-Cons-clause-reached
+derive_node-returns-in-Cons-clause-reached t c =
     let e = c.args.e.now in
     let seen : expr_tree e ≡ cons e.at (expr_tree c.deref-in-Cons.result.now) (expr_tree c.deref-in-Cons-2.result.now) = search (rules, the_lemmas) in
     rw seen c.derive_binary-in-Cons.ensures.reached
@@ -177,6 +178,10 @@ derive_all-loop-i-preserved t c =
     let vars = c.args.state.now.scope.items in
     let i = c.loop-i.i in
     let below : i < length es = omega (arith, c.loop-i-test.true) in
-    let next = left_next records schemes context first.rows.items first.holes vars es i c.index-parts-i.result c.loop-i.types.items c.loop-i.state.scope.items c.derive.new.state.scope.items c.loop-i.state.progress c.derive.new.state.progress c.in_ok-derive.field-0 below c.index-parts-i.is c.loop-i.invariant c.in_ok-derive.ensures.reached c.in_ok-derive.ensures.scope in
+    let start = map typed_node c.args.state.now.kept.items in
+    let before = map typed_node c.loop-i.state.kept.items in
+    let after = map typed_node c.derive.new.state.kept.items in
+    let asked = c.args.walk.now.keep in
+    let next = left_next records schemes context asked start first.rows.items first.holes vars es i c.index-parts-i.result c.loop-i.types.items c.loop-i.state.scope.items c.derive.new.state.scope.items c.loop-i.state.progress c.derive.new.state.progress before after c.in_ok-derive.field-0 below c.index-parts-i.is c.loop-i.invariant c.in_ok-derive.ensures.reached c.in_ok-derive.ensures.scope c.in_ok-derive.ensures.kept in
     let items : c.push.new.self.items ≡ c.loop-i.types.items ++ c.in_ok-derive.field-0 ∷ [] = search rules in
-    subst (λ types. IsLeft records schemes context first.rows.items first.holes vars es (i + 1) types c.derive.new.state.scope.items c.derive.new.state.progress) (sym items) next
+    subst (λ types. IsLeft records schemes context asked start first.rows.items first.holes vars es (i + 1) types c.derive.new.state.scope.items c.derive.new.state.progress after) (sym items) next

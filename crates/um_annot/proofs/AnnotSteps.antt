@@ -1,0 +1,151 @@
+-- The steps of an annotation: types pushed one by one, their variables, and the types put back at their nodes.
+use Rattle.std.proofs.Common.{◌≡◌, ℕ, ◌+◌, ◌<◌, ◌≤◌, Bool, true, false, cond, nat_le, List, [], ◌∷◌, ◌++◌, map, drop, take, length, get_or, Option, Some, None, inl, inr, refl, sym, ap, ◌∙◌, subst, arith, take-append-drop}
+use Rattle.std.specs.Prelude.{All}
+use Rattle.std.proofs.lemmas.Bool.{cases_Bool, cond-true, cond-false}
+use Rattle.std.proofs.lemmas.List.{append_assoc, map-append, length-map, length-take-le, take_more}
+use Rattle.std.proofs.lemmas.List.Elements.{All-append}
+use Rattle.um_units.specs.PowerMap.{PowerMap, nth}
+use Rattle.um_units.specs.Variables.{VariablesBelow}
+use Rattle.um_tree.specs.declared.types.Ty.{Ty}
+use Rattle.um_tree.specs.TypeTree.{TypeTree, type_tree}
+use Rattle.um_tree.specs.Typing.{put}
+use Rattle.um_tree.specs.Scheme.{type_variables, variables}
+use Rattle.um_elim.specs.Application.{type_fits}
+use Rattle.um_elim.specs.Numbering.{variable_order, by_place, renumbered}
+use Rattle.um_elim.proofs.GrowingOrder.{All-front, All-back}
+use Rattle.um_rows.specs.declared.nodes.NodeType.{NodeType}
+use Rattle.um_rows.specs.NodeTypes.{TypedNode, typed_node}
+use Rattle.um_infer.proofs.FormingSteps.{puts_below}
+use Rattle.um_annot.specs.TextOrder.{put_in, ordered, in_text_order, node_with}
+use Rattle.um_annot.specs.Annotated.{node_types, first_past, numbered, general}
+use Rattle.um_annot.specs.declared.stop.AnnotStop.{AnnotStop}
+use Rattle.um_annot.specs.declared.stop.AnnotStop.TheVariants as stop
+use Rattle.um_annot.specs.Answers.{StopsAt, solved_nodes, retyped}
+use Rattle.um_annot.proofs.Ordered.{order_with}
+use Rattle.um_annot.proofs.NodeLists.{types_with}
+
+-- ---- variables of nodes in another order
+module _ (P : ℕ → Type 0) where
+  put_in_all : (n : TypedNode) (ns : List TypedNode) → All P (type_variables n.type) → All P (variables (node_types ns)) → All P (variables (node_types (put_in (λ (x : TypedNode). x.at) n ns)))
+  put_in_all n [] one rest = All-append P (type_variables n.type) [] one rest
+  put_in_all n (m ∷ ns) one rest =
+      elim (cases_Bool (nat_le n.at m.at)) [
+        | inl first ↦ subst (λ xs. All P (variables (node_types xs))) (sym (cond-true _ _ _ first)) (All-append P (type_variables n.type) (variables (node_types (m ∷ ns))) one rest)
+        | inr later ↦
+            let here = All-front P (type_variables m.type) (variables (node_types ns)) rest in
+            let behind = put_in_all n ns one (All-back P (type_variables m.type) (variables (node_types ns)) rest) in
+            subst (λ xs. All P (variables (node_types xs))) (sym (cond-false _ _ _ later)) (All-append P (type_variables m.type) (variables (node_types (put_in (λ (x : TypedNode). x.at) n ns))) here behind)
+      ]
+
+  pub ordered_all : (ns : List TypedNode) → All P (variables (node_types ns)) → All P (variables (node_types (in_text_order ns)))
+  ordered_all [] h = h
+  ordered_all (n ∷ ns) h = put_in_all n (in_text_order ns) (All-front P (type_variables n.type) (variables (node_types ns)) h) (ordered_all ns (All-back P (type_variables n.type) (variables (node_types ns)) h))
+
+  -- of two lists of types, one after the other
+  pub all_both : (ts us : List TypeTree) → All P (variables ts) → All P (variables us) → All P (variables (ts ++ us))
+  all_both [] us h k = k
+  all_both (t ∷ ts) us h k =
+      All-append P (type_variables t) (variables (ts ++ us)) (All-front P (type_variables t) (variables ts) h) (all_both ts us (All-back P (type_variables t) (variables ts) h) k)
+
+-- the nodes with a solution put in hold the variables of its units
+pub solved_below : (n : ℕ) (us : List PowerMap) → All (VariablesBelow n) us → (ns : List TypedNode) → All (λ k. k < length us) (variables (node_types ns)) → All (λ k. k < n) (variables (node_types (solved_nodes us ns)))
+solved_below n us low ns h = subst (λ ts. All (λ k. k < n) (variables ts)) (sym (types_with (put (nth us)) ns)) (puts_below n us low (node_types ns) h)
+
+pub solved_in_order : (n : ℕ) (us : List PowerMap) (ns : List TypedNode) → All (λ k. k < n) (variables (node_types (solved_nodes us ns))) → All (λ k. k < n) (variables (node_types (solved_nodes us (in_text_order ns))))
+solved_in_order n us ns h = subst (λ xs. All (λ k. k < n) (variables (node_types xs))) (sym (order_with (put (nth us)) ns)) (ordered_all (λ k. k < n) (solved_nodes us ns) h)
+
+-- ---- one more type
+pub past_more : (ns : List TypedNode) (n : TypedNode) → first_past ns ≡ None → first_past (ns ++ n ∷ []) ≡ first_past (n ∷ [])
+past_more [] n h = refl
+past_more (m ∷ ns) n h = tested (type_fits m.type) refl (λ k. past_more ns n k) h
+  where
+    tested : (b : Bool) → type_fits m.type ≡ b → (first_past ns ≡ None → first_past (ns ++ n ∷ []) ≡ first_past (n ∷ [])) → first_past (m ∷ ns) ≡ None → first_past (m ∷ (ns ++ n ∷ [])) ≡ first_past (n ∷ [])
+    tested true e rest k = ap (λ c. cond c (first_past (ns ++ n ∷ [])) (Some m.at)) e ∙ rest (sym (ap (λ c. cond c (first_past ns) (Some m.at)) e) ∙ k)
+    tested false e rest k = absurd (cc (sym (ap (λ c. cond c (first_past ns) (Some m.at)) e) ∙ k))
+
+pub past_front : (ns ms : List TypedNode) (at : ℕ) → first_past ns ≡ Some at → first_past (ns ++ ms) ≡ Some at
+past_front [] ms at h = absurd (cc h)
+past_front (m ∷ ns) ms at h = tested (type_fits m.type) refl (λ k. past_front ns ms at k) h
+  where
+    tested : (b : Bool) → type_fits m.type ≡ b → (first_past ns ≡ Some at → first_past (ns ++ ms) ≡ Some at) → first_past (m ∷ ns) ≡ Some at → first_past (m ∷ (ns ++ ms)) ≡ Some at
+    tested true e rest k = ap (λ c. cond c (first_past (ns ++ ms)) (Some m.at)) e ∙ rest (sym (ap (λ c. cond c (first_past ns) (Some m.at)) e) ∙ k)
+    tested false e rest k = ap (λ c. cond c (first_past (ns ++ ms)) (Some m.at)) e ∙ sym (ap (λ c. cond c (first_past ns) (Some m.at)) e) ∙ k
+
+-- the first i nodes and the next
+next_nodes : (ns : List NodeType) (i : ℕ) (n : NodeType) → i < length ns → n ≡ get_or ns i n → map typed_node (take (i + 1) ns) ≡ map typed_node (take i ns) ++ typed_node n ∷ []
+next_nodes ns i n below is = ap (map typed_node) (take_more ns i n below ∙ ap (λ x. take i ns ++ x ∷ []) (sym is)) ∙ map-append typed_node (take i ns) (n ∷ [])
+
+next_solved : (us : List PowerMap) (ns : List NodeType) (i : ℕ) (n : NodeType) → i < length ns → n ≡ get_or ns i n → solved_nodes us (map typed_node (take (i + 1) ns)) ≡ solved_nodes us (map typed_node (take i ns)) ++ solved_nodes us (typed_node n ∷ [])
+next_solved us ns i n below is = ap (solved_nodes us) (next_nodes ns i n below is) ∙ map-append (node_with (put (nth us))) (map typed_node (take i ns)) (typed_node n ∷ [])
+
+pub range_more : (us : List PowerMap) (ns : List NodeType) (i : ℕ) (n : NodeType) → i < length ns → n ≡ get_or ns i n → first_past (solved_nodes us (map typed_node (take i ns))) ≡ None → first_past (solved_nodes us (map typed_node (take (i + 1) ns))) ≡ first_past (solved_nodes us (typed_node n ∷ []))
+range_more us ns i n below is none = ap first_past (next_solved us ns i n below is) ∙ past_more (solved_nodes us (map typed_node (take i ns))) (node_with (put (nth us)) (typed_node n)) none
+
+pub pushed_more : (us : List PowerMap) (ns : List NodeType) (i : ℕ) (n : NodeType) (old types : List TypeTree) (t : TypeTree) → i < length ns → n ≡ get_or ns i n → types ≡ old ++ node_types (solved_nodes us (map typed_node (take i ns))) → t ≡ put (nth us) (type_tree n.ty) →
+    types ++ t ∷ [] ≡ old ++ node_types (solved_nodes us (map typed_node (take (i + 1) ns)))
+pushed_more us ns i n old types t below is before one =
+    (λ j. before j ++ one j ∷ [])
+    ∙ append_assoc old (node_types (solved_nodes us (map typed_node (take i ns)))) (put (nth us) (type_tree n.ty) ∷ [])
+    ∙ ap (λ xs. old ++ xs) (sym (map-append (λ (x : TypedNode). x.type) (solved_nodes us (map typed_node (take i ns))) (solved_nodes us (typed_node n ∷ []))))
+    ∙ ap (λ xs. old ++ node_types xs) (sym (next_solved us ns i n below is))
+
+-- a node that is out of range is the first of all
+pub stops_among : (us : List PowerMap) (ns : List NodeType) (i : ℕ) (n : NodeType) (e : AnnotStop) → i < length ns → n ≡ get_or ns i n → first_past (solved_nodes us (map typed_node (take i ns))) ≡ None →
+    StopsAt (first_past (solved_nodes us (typed_node n ∷ []))) e → StopsAt (first_past (solved_nodes us (map typed_node ns))) e
+stops_among us ns i n (stop.PowerRange at) below is none h =
+    let front = solved_nodes us (map typed_node (take (i + 1) ns)) in
+    let back = solved_nodes us (map typed_node (drop (i + 1) ns)) in
+    let whole : solved_nodes us (map typed_node ns) ≡ front ++ back =
+    ap (λ xs. solved_nodes us (map typed_node xs)) (sym (take-append-drop (i + 1) ns))
+    ∙ ap (solved_nodes us) (map-append typed_node (take (i + 1) ns) (drop (i + 1) ns))
+    ∙ map-append (node_with (put (nth us))) (map typed_node (take (i + 1) ns)) (map typed_node (drop (i + 1) ns)) in
+    ap first_past whole ∙ past_front front back at (range_more us ns i n below is none ∙ h)
+stops_among us ns i n stop.NoMemory below is none h = tt
+
+-- ---- the types put back at their nodes
+drop_map : (f : TypeTree → TypeTree) (hs ts : List TypeTree) → drop (length hs) (map f (hs ++ ts)) ≡ map f ts
+drop_map f [] ts = refl
+drop_map f (h ∷ hs) ts = drop_map f hs ts
+
+pub retyped_with : (f : TypeTree → TypeTree) (ns : List TypedNode) → retyped ns (map f (node_types ns)) ≡ map (node_with f) ns
+retyped_with f [] = refl
+retyped_with f (n ∷ ns) = ap (λ xs. record { at = n.at; type = f n.type } ∷ xs) (retyped_with f ns)
+
+-- the places are those of the nodes, whatever their types
+pub retyped_places : (f : TypeTree → TypeTree) (ns : List TypedNode) (ts : List TypeTree) → retyped (map (node_with f) ns) ts ≡ retyped ns ts
+retyped_places f [] ts = refl
+retyped_places f (n ∷ ns) [] = refl
+retyped_places f (n ∷ ns) (t ∷ ts) = ap (λ xs. record { at = n.at; type = t } ∷ xs) (retyped_places f ns ts)
+
+pub numbered_back : (bases parameters slots : ℕ) (us : List PowerMap) (hs : List TypeTree) (ns : List TypedNode) →
+    retyped ns (drop (length hs) (renumbered (map (general bases parameters slots) (hs ++ node_types (solved_nodes us ns)))))
+    ≡ numbered (map (general bases parameters slots) hs) (map (node_with (general bases parameters slots)) (solved_nodes us ns))
+numbered_back bases parameters slots us hs ns =
+    let gen = λ (t : TypeTree). general bases parameters slots t in
+    let parts = map (node_with gen) (solved_nodes us ns) in
+    let heads = map gen hs in
+    let same : map gen (hs ++ node_types (solved_nodes us ns)) ≡ heads ++ node_types parts = map-append gen hs (node_types (solved_nodes us ns)) ∙ ap (λ ts. heads ++ ts) (sym (types_with gen (solved_nodes us ns))) in
+    let by = by_place (variable_order (heads ++ node_types parts)) in
+    ap (λ ts. retyped ns (drop (length hs) (renumbered ts))) same
+    ∙ ap (λ k. retyped ns (drop k (renumbered (heads ++ node_types parts)))) (sym (length-map hs gen))
+    ∙ ap (retyped ns) (drop_map (put by) heads (node_types parts))
+    ∙ sym (retyped_places (put (nth us)) ns (map (put by) (node_types parts)))
+    ∙ sym (retyped_places gen (solved_nodes us ns) (map (put by) (node_types parts)))
+    ∙ retyped_with (put by) parts
+
+-- one node more
+retyped_append : (ns : List TypedNode) (ts : List TypeTree) (n : TypedNode) (t : TypeTree) → length ns ≡ length ts → retyped (ns ++ n ∷ []) (ts ++ t ∷ []) ≡ retyped ns ts ++ record { at = n.at; type = t } ∷ []
+retyped_append [] [] n t l = refl
+retyped_append [] (u ∷ ts) n t l = absurd (cc l)
+retyped_append (m ∷ ns) [] n t l = absurd (cc l)
+retyped_append (m ∷ ns) (u ∷ ts) n t l = ap (λ xs. record { at = m.at; type = u } ∷ xs) (retyped_append ns ts n t (omega (arith, l)))
+
+pub retyped_more : (ns : List NodeType) (ts : List Ty) (i : ℕ) (n : NodeType) (t : Ty) → i < length ns → i < length ts → n ≡ get_or ns i n → t ≡ get_or ts i t →
+    retyped (map typed_node (take (i + 1) ns)) (map type_tree (take (i + 1) ts)) ≡ retyped (map typed_node (take i ns)) (map type_tree (take i ts)) ++ record { at = n.at; type = type_tree t } ∷ []
+retyped_more ns ts i n t below inside is same =
+    let low : i ≤ length ns = omega (arith, below) in
+    let low_too : i ≤ length ts = omega (arith, inside) in
+    let long : length (map typed_node (take i ns)) ≡ length (map type_tree (take i ts)) = omega (arith, length-map (take i ns) typed_node, length-map (take i ts) type_tree, length-take-le i ns low, length-take-le i ts low_too) in
+    let types : map type_tree (take (i + 1) ts) ≡ map type_tree (take i ts) ++ type_tree t ∷ [] = ap (map type_tree) (take_more ts i t inside ∙ ap (λ x. take i ts ++ x ∷ []) (sym same)) ∙ map-append type_tree (take i ts) (t ∷ []) in
+    (λ j. retyped (next_nodes ns i n below is j) (types j))
+    ∙ retyped_append (map typed_node (take i ns)) (map type_tree (take i ts)) (typed_node n) (type_tree t) long

@@ -1,0 +1,9 @@
+mod Examples
+pub mod Ordered
+mod NodeLists
+mod AnnotSteps
+mod Functions
+mod SoundNodes
+mod CompleteNodes
+mod FunctionNodes
+pub mod PrincipalNodes

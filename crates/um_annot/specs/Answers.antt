@@ -1,0 +1,41 @@
+-- What the annotation of a function answers. Want of memory may come in place of every answer.
+-- Source: this project's own.
+use Rattle.std.specs.Prelude.{◌≡◌, ℕ, List, [], ◌∷◌, map, Option, Some, Result, Ok, Err}
+use Rattle.um_units.specs.PowerMap.{PowerMap, nth}
+use Rattle.um_tree.specs.TypeTree.{TypeTree}
+use Rattle.um_tree.specs.Typing.{put}
+use Rattle.um_rows.specs.declared.nodes.NodeTypes.{NodeTypes}
+use Rattle.um_rows.specs.declared.row.RowStop.{RowStop}
+use Rattle.um_rows.specs.declared.row.RowStop.TheVariants as row_stop
+use Rattle.um_rows.specs.NodeTypes.{TypedNode, typed_nodes}
+use Rattle.um_annot.specs.declared.stop.AnnotStop.{AnnotStop}
+use Rattle.um_annot.specs.declared.stop.AnnotStop.TheVariants as stop
+use Rattle.um_annot.specs.TextOrder.{node_with}
+use Rattle.um_annot.specs.Annotated.{Annotation, annotated, past_range}
+
+abbrev pub IsAnnotated : Annotation → Result NodeTypes AnnotStop → Type 0
+IsAnnotated a (Ok nodes) = a ≡ annotated (typed_nodes nodes)
+IsAnnotated a (Err (stop.PowerRange at)) = a ≡ past_range at
+IsAnnotated a (Err stop.NoMemory) = Unit {0}
+
+-- ---- steps of the code
+
+-- no memory was left for the equations
+abbrev pub IsMemory : RowStop → Type 0
+IsMemory row_stop.Slots = ⊥
+IsMemory (row_stop.Range at) = ⊥
+IsMemory row_stop.NoMemory = Unit {0}
+
+-- the stop is at this place
+abbrev pub StopsAt : Option ℕ → AnnotStop → Type 0
+StopsAt o (stop.PowerRange at) = o ≡ Some at
+StopsAt o stop.NoMemory = Unit {0}
+
+-- the nodes with the units put for the slots
+abbrev pub solved_nodes : List PowerMap → List TypedNode → List TypedNode
+solved_nodes units nodes = map (node_with (put (nth units))) nodes
+
+-- the places of the nodes with these types, in order
+abbrev pub retyped : List TypedNode → List TypeTree → List TypedNode
+retyped (n ∷ ns) (t ∷ ts) = record { at = n.at; type = t } ∷ retyped ns ts
+retyped ns ts = []
