@@ -34,6 +34,7 @@ use Rattle.um_call_answers.specs.ExecAnswer.{IsDecodeReply, IsVerifyReply, Image
 use Rattle.um_call_answers.proofs.CallStatuses.{outcome_reply}
 use Rattle.um_call_answers.proofs.CallStage.{one_call_reply}
 use Rattle.um_call_answers.proofs.UniqueReplies.{one_outcome_reply}
+use Rattle.um_call_answers.proofs.ImageValues.{value_fits}
 
 -- ---- what is known of images
 
@@ -47,7 +48,7 @@ pub record AreOnce : Type 0 where
   pub calls : ImageCallsAreUnique
 
 -- a run has one end
-ends_once : (code : Code) (n m : ℕ) (r : Step) (o p : OutcomeTree) → next r (runs code n) ≡ done o → next r (runs code m) ≡ done p → o ≡ p
+pub ends_once : (code : Code) (n m : ℕ) (r : Step) (o p : OutcomeTree) → next r (runs code n) ≡ done o → next r (runs code m) ≡ done p → o ≡ p
 ends_once code n m (done q) o p a b = let same : done o ≡ done p = sym a ∙ b in cc same
 ends_once code n m stuck o p a b = absurd (cc a)
 ends_once code zero m (going s) o p a b = absurd (cc a)
@@ -176,6 +177,42 @@ module _ (once : AreOnce) (text other : List ℕ) (status another : Status) wher
   exec_one asked bytes (inr (short, a)) (inl (long, b)) = absurd (short long)
   exec_one asked bytes (inr (short, a)) (inr (also, b)) = bytes_one asked bytes (within (length bytes) short) a b
 
+-- ---- the answer to a call of a verified image is how its code ends
+module _ (once : AreOnce) (text : List ℕ) (status : Status) (asked : AskedCall) (bytes : List ℕ) (image : ImageTree) (call : ImageCallTree) (short : length bytes ≤ 16777216) (is : IsImageIn bytes image) (verified : IsVerified image) (named : IsImageCallOf image asked.name asked.texts (Ok call)) where
+  abbrev IsRun : Type 0
+  IsRun = ImageRunAnswer asked.budget image call text status
+
+  abbrev IsWanting : Result ImageCallTree CallRefusal → Type 0
+  IsWanting r = r ≡ Err refusal.NoMemory
+
+  few : length image.records ≤ 16777216
+  few = let records = few_records image in let long : length bytes ≡ length (image_bytes image) = ap length is.spelled in omega (arith, short, records, long)
+
+  verified_run : VerifiedAnswer asked image text status → IsRun
+  unfolding VerifiedAnswer
+  verified_run (r, also, answer) = by (once.calls image asked.name asked.texts (Ok call) r verified few named also) where
+    by : (Ok call ≡ r) ⊎ (IsWanting (Ok call) ⊎ IsWanting r) → IsRun
+    by (inl same) = subst (λ x. ByImageCall asked image x text status) (sym same) answer
+    by (inr (inl wrong)) = absurd (cc wrong)
+    by (inr (inr wanting)) = absurd (subst (λ x. ByImageCall asked image x text status) wanting answer)
+
+  decoded_run : DecodedAnswer asked image text status → IsRun
+  unfolding DecodedAnswer
+  decoded_run (inl (also, answer)) = verified_run answer
+  decoded_run (inr (stop, refused, reply)) = absurd (accepted once text text status status image stop text status verified refused reply)
+
+  bytes_run : BytesAnswer asked bytes text status → IsRun
+  unfolding BytesAnswer
+  bytes_run (inl (found, also, answer)) =
+      let same : found ≡ image = once.spelled found image also.writable is.writable (sym also.spelled ∙ is.spelled) in
+      decoded_run (subst (λ x. DecodedAnswer asked x text status) same answer)
+  bytes_run (inr (stop, are, reply)) = absurd (not_both once text text status status bytes image stop text status is are reply)
+
+  pub exec_runs : ExecAnswer asked bytes text status → IsRun
+  unfolding ExecAnswer
+  exec_runs (inl (long, reply)) = absurd (omega (arith, short, long))
+  exec_runs (inr (within, answer)) = bytes_run answer
+
 -- ---- statuses
 
 by_image_call_status : (asked : AskedCall) (image : ImageTree) (r : Result ImageCallTree CallRefusal) (text : List ℕ) (status : Status) → ByImageCall asked image r text status → IsTrue (is_answered status)
@@ -226,7 +263,7 @@ module _ (asked : AskedCall) (bytes : List ℕ) (g : GivesImageValue asked bytes
 
   run_answer : ImageRunAnswer asked.budget g.image g.call value_line Done
   unfolding ImageRunAnswer
-  run_answer = (head.0, head.1, value_outcome g.value, g.gives, inl (g.in_range head.0 head.1, (refl, refl)))
+  run_answer = (head.0, head.1, value_outcome g.value, g.gives, inl (value_fits (image_program g.image) g.is.writable.form.records g.value (type_of_shape head.0.result), (refl, refl)))
 
   verified_answer : VerifiedAnswer asked g.image value_line Done
   unfolding VerifiedAnswer

@@ -3,6 +3,8 @@ mod Examples
 pub mod Lengths
 mod DifferentTexts
 mod AskedCalls
+mod ImageValues
+mod ExecStatuses
 pub mod CallStage
 pub mod CallStatuses
 pub mod UniqueReplies

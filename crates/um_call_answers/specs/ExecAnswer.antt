@@ -2,11 +2,10 @@
 -- that ends. Units aren't in an image, so a value is printed at unit 1.
 -- Source: this project's own form of images; the machine is that of P. Landin, The mechanical evaluation of
 -- expressions, 1964.
-use Rattle.std.specs.Prelude.{ℕ, ◌≡◌, ◌⊎◌, ◌<◌, ◌≤◌, All, IsTrue, List, length, codes}
+use Rattle.std.specs.Prelude.{ℕ, ◌≡◌, ◌⊎◌, ◌<◌, ◌≤◌, All, List, length, codes}
 use Rattle.std.specs.Prelude.{Result, Ok, Err, Some, None, slice_get}
 use Rattle.um_tree.specs.ValueTree.{ValueTree, OutcomeTree, value_outcome}
 use Rattle.um_machine.specs.Machine.{EndsWith}
-use Rattle.um_show.specs.ValueText.{parts_fit}
 use Rattle.um_verify.specs.ImageTree.{HeadTree, ImageTree}
 use Rattle.um_verify.specs.Verified.{IsVerified}
 use Rattle.um_verifier.specs.declared.stop.VerifyStop.{VerifyStop}
@@ -100,6 +99,3 @@ pub record GivesImageValue (asked : AskedCall) (bytes : List ℕ) : Type 0 where
   pub named : IsImageCallOf image asked.name asked.texts (Ok call)
   pub value : ValueTree
   pub gives : EndsWith image.code call.function (image_call_values call) asked.budget (value_outcome value)
-  pub in_range :
-      (h : HeadTree) → slice_get image.heads call.function ≡ Some h →
-      IsTrue (parts_fit (image_program image) value (type_of_shape h.result))

@@ -26,8 +26,8 @@ pub record GivesValue (asked : AskedCall) (c : CheckedTree) : Type 0 where
   pub in_range : (call : CallTree) → IsAskedCall asked c call → IsTrue (parts_fit c.text.program value call.type)
 
 -- the word states sizes of base units of the program; each literal and each number of the arguments has a rescaled
--- number in range; the arguments fit a typing of the function without passing a limit; both calls give values within the
--- budget, and the types of their parts have their powers in range
+-- number in range; the arguments fit a typing of the function without passing a limit; both calls give values within
+-- the budget, and the types of their parts have their powers in range
 pub record GivesTwins (word : List ℕ) (asked : AskedCall) (c : CheckedTree) : Type 0 where
   pub scales : List Frac
   pub read : AreScalesRead c.text.program.bases word (Ok scales)

@@ -19,6 +19,7 @@ mod PartFormats
 mod Spelled
 mod ReadLaws
 mod ImagesAsParts
+mod Fitting
 mod Loops
 mod Mapped
 mod FractionParts

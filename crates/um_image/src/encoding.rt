@@ -7,7 +7,10 @@ ghost use Rattle.um_tree.specs.ProgramTree.{field_tree, record_tree};
 ghost use Rattle.um_tree.specs.Shapes.{type_shape};
 ghost use Rattle.um_machine.specs.declared.table.Operand.TheVariants.{Num};
 ghost use Rattle.um_verify.specs.ImageTree.{head_tree, image_tree, IsPlainField, IsPlainRecord, IsPlainHead, HasForm};
-ghost use Rattle.um_image.specs.Encoding.{four_bytes, long_bytes, op_number, operand_bytes, image_bytes};
+ghost use Rattle.um_image.specs.Encoding.{four_bytes, long_bytes, op_number, operand_bytes, function_parts, image_bytes};
+ghost use Rattle.um_image.specs.Encoding.{image_parts};
+ghost use Rattle.um_image.specs.Places.{ShapeFits, FieldFits, RecordFits, OperandFits, OpFits, FunctionFits, PartsFit};
+ghost use Rattle.um_image.specs.Places.{IsWritable};
 ghost use Rattle.um_image.specs.Pieces.{name_bytes, shape_bytes, field_bytes, record_bytes, op_bytes};
 ghost use Rattle.um_image.specs.Pieces.{function_bytes, functions_bytes, added_bytes};
 
@@ -24,10 +27,12 @@ use um_verify::{Head, Image};
 /// 3 and its number for a record. An instruction is its number, and its operands. Numbers have four bytes, the most
 /// significant first; a fraction has two of eight, and a truth value is a byte.
 ///
-/// `NoMemory` is its one error. The form is this project's own.
+/// Each number of the image fits its bytes, so that `decode` gives back the image. `NoMemory` is its one error. The form
+/// is this project's own.
 pub fn encode(alloc: Global, image: &Image) -> Result<Vec<u8>, NoMemory>
     requires form { HasForm (image_tree image.now) }
-    ensures { IfOk result (λ bytes. bytes.items ≡ image_bytes (image_tree image.now)) }
+    ensures bytes { IfOk result (λ bytes. bytes.items ≡ image_bytes (image_tree image.now)) }
+    ensures writable { OnOk result (IsWritable (image_tree image.now)) }
 {
     added(alloc, image)
 }
@@ -35,7 +40,8 @@ pub fn encode(alloc: Global, image: &Image) -> Result<Vec<u8>, NoMemory>
 /// The bytes, part by part.
 fn added(alloc: Global, image: &Image) -> Result<Vec<u8>, NoMemory>
     requires form { HasForm (image_tree image.now) }
-    ensures { IfOk result (λ bytes. bytes.items ≡ added_bytes (image_tree image.now)) }
+    ensures bytes { IfOk result (λ bytes. bytes.items ≡ added_bytes (image_tree image.now)) }
+    ensures fits { OnOk result (PartsFit (image_parts (image_tree image.now))) }
 {
     let mut out = Vec::new(alloc);
     out.extend_from_slice(b"UMI1")?;
@@ -73,7 +79,8 @@ fn put_name(out: &mut Vec<u8>, name: &Name) -> Result<(), AllocError>
 }
 
 fn put_shape(out: &mut Vec<u8>, shape: &Shape) -> Result<(), AllocError>
-    ensures { OnOk result (out.new.items ≡ out.old.items ++ shape_bytes (shape_tree shape.now)) }
+    ensures bytes { OnOk result (out.new.items ≡ out.old.items ++ shape_bytes (shape_tree shape.now)) }
+    ensures fits { OnOk result (ShapeFits (shape_tree shape.now)) }
 {
     match shape {
         Shape::Bool => put_byte(out, 0),
@@ -91,7 +98,8 @@ fn put_shape(out: &mut Vec<u8>, shape: &Shape) -> Result<(), AllocError>
 
 /// Adds the shape of a type.
 fn put_type(out: &mut Vec<u8>, ty: &Ty) -> Result<(), AllocError>
-    ensures { OnOk result (out.new.items ≡ out.old.items ++ shape_bytes (type_shape (type_tree ty.now))) }
+    ensures bytes { OnOk result (out.new.items ≡ out.old.items ++ shape_bytes (type_shape (type_tree ty.now))) }
+    ensures fits { OnOk result (ShapeFits (type_shape (type_tree ty.now))) }
 {
     match ty {
         Ty::Bool => put_byte(out, 0),
@@ -108,8 +116,9 @@ fn put_type(out: &mut Vec<u8>, ty: &Ty) -> Result<(), AllocError>
 }
 
 fn put_field(out: &mut Vec<u8>, field: &FieldDecl) -> Result<(), AllocError>
-    requires short { length (field_tree field.now).name < 2 ^ 32 }
-    ensures { OnOk result (out.new.items ≡ out.old.items ++ field_bytes (field_tree field.now)) }
+    requires plain { IsPlainField (field_tree field.now) }
+    ensures bytes { OnOk result (out.new.items ≡ out.old.items ++ field_bytes (field_tree field.now)) }
+    ensures fits { OnOk result (FieldFits (field_tree field.now)) }
 {
     put_name(out, &field.name)?;
     put_type(out, &field.ty)
@@ -117,7 +126,8 @@ fn put_field(out: &mut Vec<u8>, field: &FieldDecl) -> Result<(), AllocError>
 
 fn put_record(out: &mut Vec<u8>, declaration: &Record) -> Result<(), AllocError>
     requires plain { IsPlainRecord (record_tree declaration.now) }
-    ensures { OnOk result (out.new.items ≡ out.old.items ++ record_bytes (record_tree declaration.now)) }
+    ensures bytes { OnOk result (out.new.items ≡ out.old.items ++ record_bytes (record_tree declaration.now)) }
+    ensures fits { OnOk result (RecordFits (record_tree declaration.now)) }
 {
     let fields: &[FieldDecl] = &declaration.fields.items;
     put_name(out, &declaration.name)?;
@@ -127,7 +137,8 @@ fn put_record(out: &mut Vec<u8>, declaration: &Record) -> Result<(), AllocError>
 
 fn put_fields(out: &mut Vec<u8>, fields: &[FieldDecl]) -> Result<(), AllocError>
     requires plain { All IsPlainField (map field_tree fields.now) }
-    ensures { OnOk result (out.new.items ≡ out.old.items ++ flat_map field_bytes (map field_tree fields.now)) }
+    ensures bytes { OnOk result (out.new.items ≡ out.old.items ++ flat_map field_bytes (map field_tree fields.now)) }
+    ensures fits { OnOk result (All FieldFits (map field_tree fields.now)) }
 {
     for i in 0..fields.len() {
         put_field(out, &fields[i])?;
@@ -139,8 +150,9 @@ fn put_fields(out: &mut Vec<u8>, fields: &[FieldDecl]) -> Result<(), AllocError>
 fn put_records(out: &mut Vec<u8>, records: &[Record]) -> Result<(), AllocError>
     requires count { length records.now < 2 ^ 32 }
     requires plain { All IsPlainRecord (map record_tree records.now) }
-    ensures { OnOk result (out.new.items
+    ensures bytes { OnOk result (out.new.items
         ≡ out.old.items ++ four_bytes (length records.now) ++ flat_map record_bytes (map record_tree records.now)) }
+    ensures fits { OnOk result (All RecordFits (map record_tree records.now)) }
 {
     put_number(out, records.len() as u32)?;
     for i in 0..records.len() {
@@ -195,7 +207,8 @@ fn put_fraction(out: &mut Vec<u8>, c: Frac) -> Result<(), AllocError>
 }
 
 fn put_operand(out: &mut Vec<u8>, operand: Operand) -> Result<(), AllocError>
-    ensures { OnOk result (out.new.items ≡ out.old.items ++ operand_bytes operand) }
+    ensures bytes { OnOk result (out.new.items ≡ out.old.items ++ operand_bytes operand) }
+    ensures fits { OnOk result (OperandFits operand) }
 {
     match operand {
         Operand::Num(c) => put_fraction(out, c),
@@ -209,7 +222,8 @@ fn put_operand(out: &mut Vec<u8>, operand: Operand) -> Result<(), AllocError>
 
 /// Adds an operand, if there is one.
 fn put_some(out: &mut Vec<u8>, operand: Option<Operand>) -> Result<(), AllocError>
-    ensures { OnOk result (out.new.items ≡ out.old.items ++ flat_map operand_bytes (option_to_list operand)) }
+    ensures bytes { OnOk result (out.new.items ≡ out.old.items ++ flat_map operand_bytes (option_to_list operand)) }
+    ensures fits { OnOk result (All OperandFits (option_to_list operand)) }
 {
     match operand {
         None => Ok(()),
@@ -218,7 +232,8 @@ fn put_some(out: &mut Vec<u8>, operand: Option<Operand>) -> Result<(), AllocErro
 }
 
 fn put_op(out: &mut Vec<u8>, op: Op) -> Result<(), AllocError>
-    ensures { OnOk result (out.new.items ≡ out.old.items ++ op_bytes op) }
+    ensures bytes { OnOk result (out.new.items ≡ out.old.items ++ op_bytes op) }
+    ensures fits { OnOk result (OpFits op) }
 {
     let (first, second) = op.operands();
     put_byte(out, op_number(op))?;
@@ -229,7 +244,9 @@ fn put_op(out: &mut Vec<u8>, op: Op) -> Result<(), AllocError>
 /// Adds the instructions after their count.
 fn put_ops(out: &mut Vec<u8>, ops: &[Op]) -> Result<(), AllocError>
     requires count { length ops.now < 2 ^ 32 }
-    ensures { OnOk result (out.new.items ≡ out.old.items ++ four_bytes (length ops.now) ++ flat_map op_bytes ops.now) }
+    ensures bytes { OnOk result (out.new.items
+        ≡ out.old.items ++ four_bytes (length ops.now) ++ flat_map op_bytes ops.now) }
+    ensures fits { OnOk result (All OpFits ops.now) }
 {
     put_number(out, ops.len() as u32)?;
     for i in 0..ops.len() {
@@ -241,8 +258,9 @@ fn put_ops(out: &mut Vec<u8>, ops: &[Op]) -> Result<(), AllocError>
 /// Adds the shapes after their count.
 fn put_shapes(out: &mut Vec<u8>, shapes: &[Shape]) -> Result<(), AllocError>
     requires count { length shapes.now < 2 ^ 32 }
-    ensures { OnOk result (out.new.items
+    ensures bytes { OnOk result (out.new.items
         ≡ out.old.items ++ four_bytes (length shapes.now) ++ flat_map shape_bytes (map shape_tree shapes.now)) }
+    ensures fits { OnOk result (All ShapeFits (map shape_tree shapes.now)) }
 {
     put_number(out, shapes.len() as u32)?;
     for i in 0..shapes.len() {
@@ -254,7 +272,8 @@ fn put_shapes(out: &mut Vec<u8>, shapes: &[Shape]) -> Result<(), AllocError>
 fn put_function(out: &mut Vec<u8>, head: &Head, ops: &[Op]) -> Result<(), AllocError>
     requires plain { IsPlainHead (head_tree head.now) }
     requires count { length ops.now < 2 ^ 32 }
-    ensures { OnOk result (out.new.items ≡ out.old.items ++ function_bytes (head_tree head.now) ops.now) }
+    ensures bytes { OnOk result (out.new.items ≡ out.old.items ++ function_bytes (head_tree head.now) ops.now) }
+    ensures fits { OnOk result (FunctionFits (record { head = head_tree head.now; ops = ops.now })) }
 {
     put_name(out, &head.name)?;
     put_shapes(out, &head.params.items)?;
@@ -274,8 +293,9 @@ fn put_functions(
     requires within { All (λ e. (e.start ≤ e.end) × (e.end ≤ length ops.now)) entries.now }
     requires count { length heads.now < 2 ^ 32 }
     requires addresses { length ops.now < 2 ^ 32 }
-    ensures { OnOk result (out.new.items ≡ out.old.items ++ four_bytes (length heads.now) ++ functions_bytes
+    ensures bytes { OnOk result (out.new.items ≡ out.old.items ++ four_bytes (length heads.now) ++ functions_bytes
         (map head_tree heads.now) ops.now entries.now) }
+    ensures fits { OnOk result (All FunctionFits (function_parts (map head_tree heads.now) ops.now entries.now)) }
 {
     put_number(out, heads.len() as u32)?;
     for i in 0..heads.len() {

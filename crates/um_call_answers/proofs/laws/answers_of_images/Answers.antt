@@ -1,4 +1,5 @@
-use Rattle.um_call_answers.proofs.ExecAnswers.{AreOnce, exec_one, exec_done}
+use Rattle.um_call_answers.proofs.ExecAnswers.{AreOnce, exec_one, exec_done, exec_runs}
+use Rattle.um_call_answers.proofs.ExecStatuses.{exec_few}
 use Rattle.um_call_answers.proofs.laws.answers_of_images.Goals as goal
 
 pub returns : goal.returns
@@ -14,4 +15,6 @@ returns c =
     record {
       unique = λ asked bytes text other status another a b. exec_one once text other status another asked bytes a b;
       done = λ asked bytes text status gives answer. exec_done asked bytes gives once text status answer;
+      runs = λ asked bytes text status image call short is verified named answer. exec_runs once text status asked bytes image call short is verified named answer;
+      statuses = λ asked bytes text status answer. exec_few text status asked bytes answer;
     }
