@@ -1,5 +1,5 @@
--- Signs behind which no longer sign and no comment stands.
-use Rattle.std.proofs.Common.{◌≡◌, ◌≢◌, ℕ, ◌<◌, nat_lt, Bool, true, false, ◌==◌, ◌||◌, ◌&&◌, not, List, [], ◌∷◌, ◌++◌, Option, Some, is_some, refl, sym, ap, ◌∙◌, subst, ⊎_elim, arith}
+-- The characters of signs continue no name.
+use Rattle.std.proofs.Common.{◌≡◌, ◌≢◌, ℕ, ◌<◌, nat_lt, Bool, true, false, ◌==◌, ◌||◌, ◌&&◌, not, List, [], ◌∷◌, ◌++◌, refl, sym, ◌∙◌, ⊎_elim, arith}
 use Rattle.std.proofs.lemmas.Bool.{false≢true}
 use Rattle.std.proofs.lemmas.Bool.Decides.{nat_tests}
 use Rattle.std.specs.Char.{is_ascii_alphanumeric}
@@ -8,35 +8,8 @@ use Rattle.unicode_ident.proofs.IdentLemmas.{is_xid_continue-ascii}
 use Rattle.um_syntax.specs.declared.vocabulary.Symbol.{Symbol}
 use Rattle.um_syntax.specs.declared.vocabulary.Symbol.TheVariants as symbol
 use Rattle.um_syntax.specs.Vocabulary.{symbol_text}
-use Rattle.um_syntax.specs.Lexeme.{SignEnds, begins}
-use Rattle.um_syntax.specs.Machine.{double_symbol}
-use Rattle.um_syntax.proofs.Tables.{symbol_form, symbol_text-double, symbol_text-three}
-use Rattle.um_syntax.proofs.Closing.{or_false}
-
--- a longer sign or a comment stands where this character follows the text of a sign
-abbrev pub goes_on : List ℕ → ℕ → Bool
-goes_on [] c = false
-goes_on (a ∷ []) c = is_some (double_symbol a c) || (a == 47 && c == 47)
-goes_on (a ∷ b ∷ more) c = false
-
-some_none : (o : Option Symbol) (k : Symbol) → is_some o ≡ false → o ≡ Some k → ⊥
-some_none o k none is = false≢true (sym none ∙ ap is_some is)
-
-no_comment : (a c : ℕ) → (a == 47 && c == 47) ≡ false → ◌≢◌ {A = List ℕ} (a ∷ c ∷ []) (47 ∷ 47 ∷ [])
-no_comment a c refused e = let p : a ≡ 47 = cc in let q : c ≡ 47 = cc in false≢true (sym refused ∙ ap (λ x. x == 47 && c == 47) p ∙ ap (λ x. 47 == 47 && x == 47) q)
-
-single_ends : (a c : ℕ) (more : List ℕ) → goes_on (a ∷ []) c ≡ false → SignEnds (a ∷ []) (c ∷ more)
-single_ends a c more refused =
-    let parts = or_false (is_some (double_symbol a c)) (a == 47 && c == 47) refused in
-    ((λ k e. some_none (double_symbol a c) k parts.0 (symbol_text-double a c k e)), no_comment a c parts.1)
-
-double_ends : (a b c : ℕ) (more : List ℕ) → SignEnds (a ∷ b ∷ []) (c ∷ more)
-double_ends a b c more = ((λ k e. symbol_text-three a b c [] k e), λ e. cc)
-
-pub sign_ends : (k : Symbol) (c : ℕ) (more : List ℕ) → goes_on (symbol_text k) c ≡ false → SignEnds (symbol_text k) (c ∷ more)
-sign_ends k c more refused =
-    ⊎_elim (λ f. subst (λ t. SignEnds t (c ∷ more)) (sym f.1) (single_ends f.0 c more (subst (λ t. goes_on t c ≡ false) f.1 refused)))
-    (λ f. subst (λ t. SignEnds t (c ∷ more)) (sym f.2) (double_ends f.0 f.1 c more)) (symbol_form k)
+use Rattle.um_syntax.specs.Lexeme.{begins}
+use Rattle.um_syntax.proofs.Tables.{symbol_form}
 
 -- a character of the ASCII range that continues no name
 abbrev pub is_mark : ℕ → Bool

@@ -1,4 +1,4 @@
--- What each sign lets stand directly behind it.
+-- What each sign lets stand directly after it.
 use Rattle.std.proofs.Common.{◌≡◌, ℕ, ◌<◌, Bool, true, false, ◌==◌, ◌||◌, ◌&&◌, cond, eqb, List, [], ◌∷◌, ◌++◌, length, Some, None, is_some, refl, sym, ap, ◌∙◌, subst, arith}
 use Rattle.std.proofs.lemmas.Bool.{false≢true, or_parts, or_from}
 use Rattle.std.specs.Char.{is_ascii_digit}
@@ -9,7 +9,7 @@ use Rattle.um_syntax.specs.Vocabulary.{symbol_text}
 use Rattle.um_syntax.specs.Lexing.{is_caret_kind, is_minus_kind}
 use Rattle.um_syntax.specs.Lexeme.{SignEnds, begins, begins_part}
 use Rattle.um_syntax.specs.Machine.{double_symbol, double_symbols, found_pair}
-use Rattle.um_show.proofs.Apart.{goes_on, sign_ends}
+use Rattle.um_syntax.proofs.SignEnds.{grows, sign_ends}
 use Rattle.um_show.proofs.Chain.{Place, fresh, full, raised, lowered, pointed, Role, opening, closing, lowering, slashing, raising, pointing, role, after_role, is_second, is_slash, Clear, is_behind, is_raised, is_power}
 
 -- whether the role is that of `^`; of `-`
@@ -29,9 +29,9 @@ is_lowering slashing = false
 is_lowering raising = false
 is_lowering pointing = false
 
--- nothing goes on behind this text
+-- no character lengthens this text
 abbrev pub Quiet : List ℕ → Type 0
-Quiet t = (c : ℕ) → goes_on t c ≡ false
+Quiet t = (c : ℕ) → grows t c ≡ false
 
 abbrev pub EndsAs : Role → List ℕ → Type 0
 EndsAs opening t = begins is_slash t ≡ false
@@ -90,7 +90,7 @@ no_double a c e =
     let colon = or_parts _ _ greater.1 in let bar = or_parts _ _ colon.1 in
     ap is_some (no_pair a c double_symbols (less.0, (equal.0, (greater.0, (colon.0, (bar.0, (bar.1, (greater.0, tt))))))))
 
-apart : (t : List ℕ) (c : ℕ) → is_second c ≡ false → (begins is_slash t && is_slash c) ≡ false → goes_on t c ≡ false
+apart : (t : List ℕ) (c : ℕ) → is_second c ≡ false → (begins is_slash t && is_slash c) ≡ false → grows t c ≡ false
 apart [] c s l = refl
 apart (a ∷ []) c s l = or_from (is_some (double_symbol a c)) (is_slash a && is_slash c) (no_double a c s) l
 apart (a ∷ b ∷ more) c s l = refl
@@ -99,7 +99,7 @@ no_slash : (a b : Bool) → a ≡ false → (a && b) ≡ false
 no_slash true b e = absurd (false≢true (sym e))
 no_slash false b e = refl
 
-by_role : (r : Role) (t : List ℕ) (s : Place) (c : ℕ) (more : List ℕ) → EndsAs r t → Clear (after_role r s) (c ∷ more) → goes_on t c ≡ false
+by_role : (r : Role) (t : List ℕ) (s : Place) (c : ℕ) (more : List ℕ) → EndsAs r t → Clear (after_role r s) (c ∷ more) → grows t c ≡ false
 by_role opening t s c more e clear = apart t c clear.0 (no_slash (begins is_slash t) (is_slash c) e)
 by_role closing t s c more e clear = e c
 by_role slashing t s c more e clear = apart t c clear.0 (and_no (begins is_slash t) (is_slash c) clear.1)

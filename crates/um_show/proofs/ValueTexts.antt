@@ -4,6 +4,7 @@ use Rattle.std.proofs.Math.Dec.{eqb-suc-zero}
 use Rattle.std.specs.Prelude.{Bool, true, false, ◌&&◌, IsTrue, Some, slice_get}
 use Rattle.std.proofs.lemmas.List.{drop_more}
 use Rattle.std.proofs.lemmas.Option.{slice_get_within, get_or_from_slice_get}
+use Rattle.um_frac.specs.declared.number.Frac.{Frac}
 use Rattle.um_units.specs.declared.UnitStop.{UnitStop}
 use Rattle.um_units.specs.declared.UnitStop.TheVariants.{Range, NoMemory}
 use Rattle.um_units.specs.PowerMap.{PowerMap}
@@ -13,7 +14,7 @@ use Rattle.um_tree.specs.TypeTree.{TypeTree}
 use Rattle.um_tree.specs.ProgramTree.{FieldTree, ProgramTree, field_tree}
 use Rattle.um_tree.specs.ValueTree.{ValueTree, ValueTrees, no_values, more_values, values_in_order}
 use Rattle.um_show.specs.Lists.{gap_before}
-use Rattle.um_show.specs.ValueText.{separator, field_at, value_text, items_text, fields_text, fields_fit}
+use Rattle.um_show.specs.ValueText.{separator, field_at, text_by, items_by, fields_by, fields_fit}
 
 -- those from number i on
 abbrev pub values_from : {A : Type 0} → (A → ValueTree) → List A → ℕ → ValueTrees
@@ -37,27 +38,27 @@ gap_more : (i : ℕ) (between : List ℕ) → gap_before (i + 1) between ≡ bet
 gap_more i between = rw add-one (ap (λ b. cond b [] between) (eqb-suc-zero i))
 
 -- one more item is written
-pub item_written : (p : ProgramTree) (v : ValueTree) (vs : ValueTrees) (t : TypeTree) (i : ℕ) (whole begun apart new : List ℕ) → whole ≡ begun ++ items_text p (gap_before i separator) (more_values v vs) t → apart ≡ begun ++ gap_before i separator
-    → new ≡ apart ++ value_text p v t → whole ≡ new ++ items_text p (gap_before (i + 1) separator) vs t
-item_written p v vs t i whole begun apart new so_far gap item =
+pub item_written : (number : Frac → TypeTree → List ℕ) (p : ProgramTree) (v : ValueTree) (vs : ValueTrees) (t : TypeTree) (i : ℕ) (whole begun apart new : List ℕ) → whole ≡ begun ++ items_by number p (gap_before i separator) (more_values v vs) t → apart ≡ begun ++ gap_before i separator
+    → new ≡ apart ++ text_by number p v t → whole ≡ new ++ items_by number p (gap_before (i + 1) separator) vs t
+item_written number p v vs t i whole begun apart new so_far gap item =
     let g = gap_before i separator in
-    let w = value_text p v t in
-    let rest = items_text p separator vs t in
+    let w = text_by number p v t in
+    let rest = items_by number p separator vs t in
     let flat : begun ++ ((g ++ w) ++ rest) ≡ ((begun ++ g) ++ w) ++ rest = simp (append_assoc) refl in
-    so_far ∙ flat ∙ ap (λ s. (s ++ w) ++ rest) (sym gap) ∙ ap (λ s. s ++ rest) (sym item) ∙ ap (λ s. new ++ items_text p s vs t) (sym (gap_more i separator))
+    so_far ∙ flat ∙ ap (λ s. (s ++ w) ++ rest) (sym gap) ∙ ap (λ s. s ++ rest) (sym item) ∙ ap (λ s. new ++ items_by number p s vs t) (sym (gap_more i separator))
 
 -- one more field is written
-pub field_written : (p : ProgramTree) (v : ValueTree) (vs : ValueTrees) (f : FieldTree) (fs : List FieldTree) (i : ℕ) (whole begun apart named equal new : List ℕ) → whole ≡ begun ++ fields_text p (gap_before i separator) (more_values v vs) (f ∷ fs)
-    → apart ≡ begun ++ gap_before i separator → named ≡ apart ++ f.name → equal ≡ named ++ codes " = " → new ≡ equal ++ value_text p v f.type → whole ≡ new ++ fields_text p (gap_before (i + 1) separator) vs fs
-field_written p v vs f fs i whole begun apart named equal new so_far gap name sign value =
+pub field_written : (number : Frac → TypeTree → List ℕ) (p : ProgramTree) (v : ValueTree) (vs : ValueTrees) (f : FieldTree) (fs : List FieldTree) (i : ℕ) (whole begun apart named equal new : List ℕ) → whole ≡ begun ++ fields_by number p (gap_before i separator) (more_values v vs) (f ∷ fs)
+    → apart ≡ begun ++ gap_before i separator → named ≡ apart ++ f.name → equal ≡ named ++ codes " = " → new ≡ equal ++ text_by number p v f.type → whole ≡ new ++ fields_by number p (gap_before (i + 1) separator) vs fs
+field_written number p v vs f fs i whole begun apart named equal new so_far gap name sign value =
     let g = gap_before i separator in
-    let w = value_text p v f.type in
-    let rest = fields_text p separator vs fs in
+    let w = text_by number p v f.type in
+    let rest = fields_by number p separator vs fs in
     let flat : begun ++ ((((g ++ f.name) ++ codes " = ") ++ w) ++ rest) ≡ ((((begun ++ g) ++ f.name) ++ codes " = ") ++ w) ++ rest = simp (append_assoc) refl in
     so_far ∙ flat ∙ ap (λ s. (((s ++ f.name) ++ codes " = ") ++ w) ++ rest) (sym gap) ∙ ap (λ s. ((s ++ codes " = ") ++ w) ++ rest) (sym name)
     ∙ ap (λ s. (s ++ w) ++ rest) (sym sign)
     ∙ ap (λ s. s ++ rest) (sym value)
-    ∙ ap (λ s. new ++ fields_text p s vs fs) (sym (gap_more i separator))
+    ∙ ap (λ s. new ++ fields_by number p s vs fs) (sym (gap_more i separator))
 
 -- ---- the fields from number i on, with the record's units put in
 
@@ -86,9 +87,9 @@ stop_and false b Range h = h
 stop_and a b NoMemory h = tt
 
 -- where no field is left
-pub no_fields : (p : ProgramTree) (gap : List ℕ) (vs : ValueTrees) → fields_text p gap vs [] ≡ []
-no_fields p gap no_values = refl
-no_fields p gap (more_values v vs) = refl
+pub no_fields : (number : Frac → TypeTree → List ℕ) (p : ProgramTree) (gap : List ℕ) (vs : ValueTrees) → fields_by number p gap vs [] ≡ []
+no_fields number p gap no_values = refl
+no_fields number p gap (more_values v vs) = refl
 
 pub no_fields_fit : (p : ProgramTree) (vs : ValueTrees) → fields_fit p vs [] ≡ true
 no_fields_fit p no_values = refl

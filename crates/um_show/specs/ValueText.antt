@@ -2,6 +2,7 @@
 -- Source: this project's own texts; the units are in the notation of the F# specification, Units Of Measure.
 use Rattle.std.specs.Prelude.{ℕ, Bool, true, false, ◌&&◌, List, [], ◌∷◌, ◌++◌, codes, map, slice_get, Option, Some}
 use Rattle.std.specs.Prelude.{None}
+use Rattle.um_frac.specs.declared.number.Frac.{Frac}
 use Rattle.um_units.specs.declared.Term.{Term}
 use Rattle.um_units.specs.PowerMap.{PowerMap, nth}
 use Rattle.um_units.specs.Variables.{variables_below}
@@ -58,27 +59,37 @@ suffix_at bases (record_type r us) = []
 abbrev pub separator : List ℕ
 separator = codes "; "
 
-module _ (p : ProgramTree) where
+-- a number with what stands behind it, at a type
+abbrev pub number_at : List (List ℕ) → Frac → TypeTree → List ℕ
+number_at bases c t = number_text c ++ suffix_at bases t
+
+-- values of a program, with its numbers at their types as they are told here
+module _ (number : Frac → TypeTree → List ℕ) (p : ProgramTree) where
   abbrev mutual
-    pub value_text : ValueTree → TypeTree → List ℕ
-    value_text (truth_value b) t = truth_text b
-    value_text (number_value c) t = number_text c ++ suffix_at p.bases t
-    value_text (list_value vs) t = codes "[" ++ items_text [] vs (item_in t) ++ codes "]"
-    value_text (record_value r vs) t =
-        codes "{ " ++ fields_text [] vs (fields_in (slice_get p.records r) (units_in t)) ++ codes " }"
+    pub text_by : ValueTree → TypeTree → List ℕ
+    text_by (truth_value b) t = truth_text b
+    text_by (number_value c) t = number c t
+    text_by (list_value vs) t = codes "[" ++ items_by [] vs (item_in t) ++ codes "]"
+    text_by (record_value r vs) t =
+        codes "{ " ++ fields_by [] vs (fields_in (slice_get p.records r) (units_in t)) ++ codes " }"
 
     -- items, the first behind this, the others behind `; `
-    pub items_text : List ℕ → ValueTrees → TypeTree → List ℕ
-    items_text gap no_values t = []
-    items_text gap (more_values v vs) t = gap ++ value_text v t ++ items_text separator vs t
+    pub items_by : List ℕ → ValueTrees → TypeTree → List ℕ
+    items_by gap no_values t = []
+    items_by gap (more_values v vs) t = gap ++ text_by v t ++ items_by separator vs t
 
     -- fields with their names in the same way
-    pub fields_text : List ℕ → ValueTrees → List FieldTree → List ℕ
-    fields_text gap no_values fs = []
-    fields_text gap (more_values v vs) [] = []
-    fields_text gap (more_values v vs) (f ∷ fs) =
-        gap ++ f.name ++ codes " = " ++ value_text v f.type ++ fields_text separator vs fs
+    pub fields_by : List ℕ → ValueTrees → List FieldTree → List ℕ
+    fields_by gap no_values fs = []
+    fields_by gap (more_values v vs) [] = []
+    fields_by gap (more_values v vs) (f ∷ fs) =
+        gap ++ f.name ++ codes " = " ++ text_by v f.type ++ fields_by separator vs fs
 
+-- with its numbers as they are
+abbrev pub value_text : ProgramTree → ValueTree → TypeTree → List ℕ
+value_text p v t = text_by (number_at p.bases) p v t
+
+module _ (p : ProgramTree) where
   -- The types of the parts have their powers in range: those of the fields, with the record's units put in, at each
   -- depth. The items of a list have a type that its own type holds.
   abbrev mutual

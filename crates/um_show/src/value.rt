@@ -2,25 +2,20 @@
 ghost use Rattle.std.specs.Prelude.{◌≡◌, ◌++◌, ◌&&◌, [], List, IfOk, OnOk, map, slice_get};
 ghost use Rattle.um_units.specs.PowerMap.{PowerMap, nth};
 ghost use Rattle.um_units.specs.Range.{RangeUnless};
-ghost use Rattle.um_units.specs.Variables.{variables_below};
 ghost use Rattle.um_tree.specs.TypeTree.{type_tree, bool_type};
-ghost use Rattle.um_tree.specs.ProgramTree.{field_tree, record_tree, program_tree};
+ghost use Rattle.um_tree.specs.ProgramTree.{field_tree, program_tree};
 ghost use Rattle.um_tree.specs.Typing.{put};
 ghost use Rattle.um_tree.specs.ValueTree.{value_tree, values_in_order};
 ghost use Rattle.um_elim.specs.Application.{type_fits};
-ghost use Rattle.um_show.specs.NumberText.{number_text};
-ghost use Rattle.um_show.specs.UnitText.{unit_text};
-ghost use Rattle.um_show.specs.ValueText.{item_in, units_in, field_at, fields_in, truth_text, suffix_text, suffix_at};
-ghost use Rattle.um_show.specs.ValueText.{value_text, items_text, fields_text, parts_fit, items_fit, fields_fit};
+ghost use Rattle.um_show.specs.ValueText.{item_in, units_in, field_at, fields_in, truth_text, value_text};
+ghost use Rattle.um_show.specs.ValueText.{text_by, items_by, fields_by, parts_fit, items_fit, fields_fit};
 
-use crate::number::push_number;
-use crate::printed_unit::push_unit;
+use crate::printer::{Exact, ValuePrinter};
 use crate::text::{push_gap, push_name};
 use std::alloc::{AllocError, Global};
 use um_elim::put_in_type;
-use um_frac::Frac;
-use um_tree::{FieldDecl, Name, Program, Record, Ty, Value};
-use um_units::{Atom, Unit, UnitStop};
+use um_tree::{FieldDecl, Program, Ty, Value};
+use um_units::{Unit, UnitStop};
 
 /// The text of a value at a type: `true`, `false`; a number, and directly behind it its unit in angle brackets, nothing
 /// at the unit 1, `<_>` at a unit with a variable; `[A; B]`; `{ f = A; g = B }`, the fields in the order of
@@ -39,37 +34,55 @@ pub fn value_text(
     ensures range { RangeUnless result (parts_fit (program_tree program.now) (value_tree value.now)
         (type_tree ty.now)) }
 {
+    text_by(alloc, &Exact { program }, value, ty)
+}
+
+/// The text of a value at a type with its numbers as the printer prints them, and else the text that [`value_text`]
+/// gives.
+///
+/// The value has the type's shape, over the records of the printer's program. Range comes exactly if the type of a
+/// field of a part, with the record's units put in, has a power outside -2147483647..2147483647. The form is this
+/// project's own.
+pub fn text_by<P: ValuePrinter>(
+    alloc: Global,
+    printer: &P,
+    value: &Value,
+    ty: &Ty,
+) -> Result<Vec<u8>, UnitStop>
+    ensures exact { IfOk result (λ text. text.items
+        ≡ text_by (P.number printer.now) (P.tree printer.now) (value_tree value.now) (type_tree ty.now)) }
+    ensures range { RangeUnless result (parts_fit (P.tree printer.now) (value_tree value.now) (type_tree ty.now)) }
+{
     let mut text = Vec::new(alloc);
-    push_value(alloc, &mut text, program, value, ty)?;
+    push_value(alloc, &mut text, printer, value, ty)?;
     Ok(text)
 }
 
 /// Adds the text of a value at a type.
 #[cycle(push_value)]
-fn push_value(
+fn push_value<P: ValuePrinter>(
     alloc: Global,
     text: &mut Vec<u8>,
-    program: &Program,
+    printer: &P,
     value: &Value,
     ty: &Ty,
 ) -> Result<(), UnitStop>
     ensures exact { OnOk result (text.new.items ≡ text.old.items
-        ++ value_text (program_tree program.now) (value_tree value.now) (type_tree ty.now)) }
-    ensures range { RangeUnless result (parts_fit (program_tree program.now) (value_tree value.now)
-        (type_tree ty.now)) }
+        ++ text_by (P.number printer.now) (P.tree printer.now) (value_tree value.now) (type_tree ty.now)) }
+    ensures range { RangeUnless result (parts_fit (P.tree printer.now) (value_tree value.now) (type_tree ty.now)) }
 {
     match value {
         Value::Bool(b) => Ok(push_truth(text, *b)?),
-        Value::Num(c) => Ok(push_number_at(alloc, text, program.bases.as_slice(), *c, ty)?),
+        Value::Num(c) => Ok(printer.push_number(alloc, text, *c, ty)?),
         Value::List(values) => {
             text.push(b'[')?;
-            push_items(alloc, text, program, &values.items, ty)?;
+            push_items(alloc, text, printer, &values.items, ty)?;
             Ok(text.push(b']')?)
         }
         Value::Rec(r, values) => {
-            let fields = fields_of(&program.records.items, *r);
+            let fields = fields_of(printer, *r);
             text.extend_from_slice(b"{ ")?;
-            push_fields(alloc, text, program, &values.items, fields, units_of(ty))?;
+            push_fields(alloc, text, printer, &values.items, fields, units_of(ty))?;
             Ok(text.extend_from_slice(b" }")?)
         }
     }
@@ -77,42 +90,42 @@ fn push_value(
 
 /// Adds the texts of items of a list of this type, `; ` between each two.
 #[cycle(push_value)]
-fn push_items(
+fn push_items<P: ValuePrinter>(
     alloc: Global,
     text: &mut Vec<u8>,
-    program: &Program,
+    printer: &P,
     values: &[Value],
     ty: &Ty,
 ) -> Result<(), UnitStop>
     ensures exact { OnOk result (text.new.items ≡ text.old.items
-        ++ items_text (program_tree program.now) [] (values_in_order (map value_tree values.now))
+        ++ items_by (P.number printer.now) (P.tree printer.now) [] (values_in_order (map value_tree values.now))
         (item_in (type_tree ty.now))) }
-    ensures range { RangeUnless result (items_fit (program_tree program.now)
+    ensures range { RangeUnless result (items_fit (P.tree printer.now)
         (values_in_order (map value_tree values.now)) (item_in (type_tree ty.now))) }
 {
     let truth = Ty::Bool;
     let item = item_of(ty, &truth);
     for i in 0..values.len() {
         push_gap(text, i, b"; ")?;
-        push_value(alloc, text, program, &values[i], item)?;
+        push_value(alloc, text, printer, &values[i], item)?;
     }
     Ok(())
 }
 
 /// Adds the texts of fields with their names, `; ` between each two.
 #[cycle(push_value)]
-fn push_fields(
+fn push_fields<P: ValuePrinter>(
     alloc: Global,
     text: &mut Vec<u8>,
-    program: &Program,
+    printer: &P,
     values: &[Value],
     fields: &[FieldDecl],
     units: &[Unit],
 ) -> Result<(), UnitStop>
     ensures exact { OnOk result (text.new.items ≡ text.old.items
-        ++ fields_text (program_tree program.now) [] (values_in_order (map value_tree values.now))
+        ++ fields_by (P.number printer.now) (P.tree printer.now) [] (values_in_order (map value_tree values.now))
         (map (field_at units.now) (map field_tree fields.now))) }
-    ensures range { RangeUnless result (fields_fit (program_tree program.now)
+    ensures range { RangeUnless result (fields_fit (P.tree printer.now)
         (values_in_order (map value_tree values.now)) (map (field_at units.now) (map field_tree fields.now))) }
 {
     for i in 0..values.len() {
@@ -122,29 +135,29 @@ fn push_fields(
         push_gap(text, i, b"; ")?;
         push_name(text, &field.name)?;
         text.extend_from_slice(b" = ")?;
-        push_part(alloc, text, program, &values[i], &field.ty, units)?;
+        push_part(alloc, text, printer, &values[i], &field.ty, units)?;
     }
     Ok(())
 }
 
 /// Adds the text of a field's value, whose type has these units put in.
 #[cycle(push_value)]
-fn push_part(
+fn push_part<P: ValuePrinter>(
     alloc: Global,
     text: &mut Vec<u8>,
-    program: &Program,
+    printer: &P,
     value: &Value,
     declared: &Ty,
     units: &[Unit],
 ) -> Result<(), UnitStop>
     ensures exact { OnOk result (text.new.items ≡ text.old.items
-        ++ value_text (program_tree program.now) (value_tree value.now)
+        ++ text_by (P.number printer.now) (P.tree printer.now) (value_tree value.now)
         (put (nth units.now) (type_tree declared.now))) }
     ensures range { RangeUnless result (type_fits (put (nth units.now) (type_tree declared.now))
-        && parts_fit (program_tree program.now) (value_tree value.now) (put (nth units.now) (type_tree declared.now))) }
+        && parts_fit (P.tree printer.now) (value_tree value.now) (put (nth units.now) (type_tree declared.now))) }
 {
     let ty = put_in_type(alloc, units, declared)?;
-    let done = push_value(alloc, text, program, value, &ty);
+    let done = push_value(alloc, text, printer, value, &ty);
     drop(ty);
     done
 }
@@ -157,70 +170,6 @@ fn push_truth(text: &mut Vec<u8>, b: bool) -> Result<(), AllocError>
     } else {
         text.extend_from_slice(b"false")
     }
-}
-
-/// Adds the text of a number at a type.
-fn push_number_at(
-    alloc: Global,
-    text: &mut Vec<u8>,
-    bases: &[Name],
-    c: Frac,
-    ty: &Ty,
-) -> Result<(), AllocError>
-    ensures { OnOk result (text.new.items ≡ text.old.items
-        ++ (number_text c ++ suffix_at bases.now (type_tree ty.now))) }
-{
-    push_number(text, c)?;
-    push_suffix_at(alloc, text, bases, ty)
-}
-
-/// Adds what stands behind a number of this type.
-fn push_suffix_at(
-    alloc: Global,
-    text: &mut Vec<u8>,
-    bases: &[Name],
-    ty: &Ty,
-) -> Result<(), AllocError>
-    ensures { OnOk result (text.new.items ≡ text.old.items ++ suffix_at bases.now (type_tree ty.now)) }
-{
-    match ty {
-        Ty::Num(unit) => push_suffix(alloc, text, bases, unit),
-        Ty::Bool => Ok(()),
-        Ty::List(_) => Ok(()),
-        Ty::Rec(_, _) => Ok(()),
-    }
-}
-
-/// Adds the unit of a number, in angle brackets.
-fn push_suffix(
-    alloc: Global,
-    text: &mut Vec<u8>,
-    bases: &[Name],
-    unit: &Unit,
-) -> Result<(), AllocError>
-    ensures { OnOk result (text.new.items ≡ text.old.items
-        ++ suffix_text (unit_text bases.now unit.now) (variables_below 0 unit.now.terms) unit.now.terms) }
-{
-    if unit.terms().is_empty() {
-        return Ok(());
-    }
-    if !is_closed(unit) {
-        return text.extend_from_slice(b"<_>");
-    }
-    text.push(b'<')?;
-    push_unit(alloc, text, bases, unit)?;
-    text.push(b'>')?;
-    Ok(())
-}
-
-/// Whether the unit holds no variable.
-fn is_closed(unit: &Unit) -> bool
-    ensures { result ≡ variables_below 0 unit.now.terms }
-{
-    unit.terms().iter().all(|term| match term.atom {
-        Atom::Base(_) => true,
-        Atom::Var(_) => false,
-    })
 }
 
 /// The type of a list's items.
@@ -245,11 +194,11 @@ fn units_of(ty: &Ty) -> &[Unit]
 }
 
 /// The fields of the record of this number.
-fn fields_of(records: &[Record], r: u32) -> &[FieldDecl]
+fn fields_of<P: ValuePrinter>(printer: &P, r: u32) -> &[FieldDecl]
     ensures { (us : List PowerMap) → map (field_at us) (map field_tree result.now)
-        ≡ fields_in (slice_get (map record_tree records.now) r) us }
+        ≡ fields_in (slice_get (P.tree printer.now).records r) us }
 {
-    match records.get(r as usize) {
+    match printer.program().records.items.get(r as usize) {
         Some(declared) => &declared.fields.items,
         None => &[],
     }

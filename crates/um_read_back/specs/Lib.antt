@@ -1,0 +1,2 @@
+-- What holds of all values that are printed with decimals.
+pub mod Laws
