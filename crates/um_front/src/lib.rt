@@ -13,6 +13,7 @@
 
 mod checked;
 mod checking;
+mod laws;
 mod parts;
 mod reading;
 mod shaping;
@@ -21,6 +22,7 @@ mod tree;
 
 pub use checked::Checked;
 pub use checking::{check, function_at};
+pub use laws::{refusals_tell_places, word_refusals_tell_places};
 pub use parts::{CheckedParts, ReadText, ShapedText};
 pub use reading::Reading;
 pub use shaping::shape_text;

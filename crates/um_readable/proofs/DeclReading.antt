@@ -10,13 +10,13 @@ use Rattle.um_expr.specs.ExprGrammar.{First}
 use Rattle.um_parse.specs.DeclGrammar.{Attribute, VarSpells, MoreVars, VarsSpell, FieldDeclSpells, MoreFieldDecls, FieldDeclsSpell, ParamsSpell, ResultSpells, RecSpells, DeclSpells, DeclsSpell, FieldDeclsFit, ParamsFit, ResultFits, DeclFits, DeclsFit}
 use Rattle.um_readable.proofs.Reading.{Leaves, leaves_all, leaves_few, thence, first_leaves, at_leaves, type_leaves, expr_leaves}
 
-unit_leaves : (u : UnitSyntax) (tokens rest : List Token) → UnitSpells u tokens rest → UnitFits u → Leaves tokens rest
+pub unit_leaves : (u : UnitSyntax) (tokens rest : List Token) → UnitSpells u tokens rest → UnitFits u → Leaves tokens rest
 unit_leaves u tokens rest s fits = let r = unit_reaches u tokens rest s fits in (r.0, r.1)
 
 pub attribute_leaves : (tokens rest : List Token) → Attribute tokens rest → Leaves tokens rest
 attribute_leaves tokens rest s = thence (first_leaves _ tokens s.0 s.3) (thence (first_leaves _ s.0 s.1 s.4) (thence (first_leaves _ s.1 s.2 s.5) (first_leaves _ s.2 rest s.6)))
 
-var_leaves : (v : VarSyntax) (tokens rest : List Token) → VarSpells v tokens rest → Leaves tokens rest
+pub var_leaves : (v : VarSyntax) (tokens rest : List Token) → VarSpells v tokens rest → Leaves tokens rest
 var_leaves v tokens rest s = thence (attribute_leaves tokens s.0 s.1) (at_leaves _ v.at s.0 rest s.2)
 
 more_vars_leave : (vs : List VarSyntax) (tokens rest : List Token) → MoreVars vs tokens rest → Leaves tokens rest

@@ -1,4 +1,3 @@
-pub mod TokenCounts
 mod NameTokens
 mod Reading
 mod DeclReading
@@ -9,7 +8,11 @@ mod LimitCounts
 pub mod Readability
 pub mod TextBytes
 pub mod NamesWithin
-mod TokenPlaces
+pub mod TokenPlaces
+pub mod NotePlaces
 mod ExprPlaces
+mod DeclPlaces
 mod ResolvedPlaces
+pub mod FaultPlaces
 pub mod NodePlaces
+pub mod BeginningTokens

@@ -13,7 +13,7 @@ use Rattle.um_operands.specs.ExprHeights.{notes_in, whole_expr_height}
 use Rattle.um_parse.specs.ProgramLimits.{functions_in as functions_among, passed_limit, WithinLimits}
 use Rattle.um_parse.specs.Parsed.{IsRead}
 use Rattle.um_names.specs.Readable.{AreReadFieldDecls, AreReadParams, IsReadResult, IsReadDecl, AreReadDecls, IsReadable}
-use Rattle.um_readable.proofs.TokenCounts.{tokens_within}
+use Rattle.um_syntax.proofs.TokenCounts.{tokens_within}
 use Rattle.um_readable.proofs.NameTokens.{tokens_named}
 use Rattle.um_readable.proofs.DeclReading.{few_decls}
 use Rattle.um_readable.proofs.DeclNames.{FieldsNamed, DeclNamed, DeclsNamed, decls_named}

@@ -55,7 +55,7 @@ module _ (P : ℕ → Type 0) (known : Known) (variables : List (List ℕ)) (cal
   mutual
     pub places : (scope : Scope) (t : ExprSyntax) (e : ExprTree) → NodesHold P t → Gives scope t e → EachPlace P e
     places scope (truth_syntax at b) e h is = found (truth at b) e is h
-    places scope (number_syntax at c n) e h is = literal_places at c n e h is
+    places scope (number_syntax at c n) e h is = literal_places at c n e h.0 is
     places scope (name_syntax at x) e h is = named_places (local_of scope x) x at e h is
     places scope (call_syntax at x es) e h is =
         let w = then_found (called callables (local_of scope x) x (length_of es) at) (λ j. and_then (resolved_exprs known variables callables scope es) (λ bs. Ok (call at j bs))) e is in
@@ -95,7 +95,7 @@ module _ (P : ℕ → Type 0) (known : Known) (variables : List (List ℕ)) (cal
         one_part full (split at w.0 v.0) e u.2 (λ f k. (h.0, places scope l w.0 h.1 w.1, places scope a v.0 h.2 v.1, places inner b f h.3 k))
     places scope (nil_syntax at t) e h is =
         let w = then_found (resolved_type known variables true t) (λ n. Ok (nil at n)) e is in
-        found (nil at w.0) e w.2 h
+        found (nil at w.0) e w.2 h.0
     places scope (list_syntax at es) e h is =
         let w = then_found (resolved_exprs known variables callables scope es) (λ bs. Ok (list_expr at bs)) e is in
         found (list_expr at w.0) e w.2 (h.0, places_of scope es w.0 h.1 w.1)

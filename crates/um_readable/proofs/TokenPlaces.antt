@@ -1,14 +1,18 @@
 -- Each token of a text begins before a character of the text.
-use Rattle.std.proofs.Common.{◌≡◌, ℕ, ◌+◌, Bool, true, false, ◌&&◌, cond, ◌==◌, List, [], ◌∷◌, ◌++◌, length, length-append, take, drop, refl, sym, ap, subst, ◌∙◌, append_assoc, arith, eqb-true}
+use Rattle.std.proofs.Common.{◌≡◌, ℕ, ◌+◌, Bool, true, false, ◌&&◌, cond, ◌==◌, List, [], ◌∷◌, ◌++◌, inl, inr, length, length-append, take, drop, refl, sym, ap, subst, ◌∙◌, append_assoc, arith, eqb-true}
 use Rattle.std.specs.Char.{len_utf8}
 use Rattle.std.specs.Str.{chars, IsUtf8, encode_utf8_all, all_scalars}
 use Rattle.std.proofs.lemmas.Str.{encodes-append, encodes-chars, scalars-chars}
 use Rattle.std.proofs.Math.Seq.{take-append_seam, drop-append_seam}
 use Rattle.um_syntax.specs.declared.token.Token.{Token}
 use Rattle.um_syntax.specs.Lexeme.{text_of}
-use Rattle.um_syntax.specs.Lexing.{size_of, Lexes, HasTokens}
+use Rattle.um_syntax.specs.declared.token.LexStop.{LexStop}
+use Rattle.um_syntax.specs.declared.token.LexStop.TheVariants as lex_stop
+use Rattle.um_syntax.specs.Numeral.{numeral_text}
+use Rattle.um_syntax.specs.Lexing.{size_of, body, body_place, Lexes, HasTokens, Faulty, Refuses}
 use Rattle.um_syntax.proofs.Places.{size_of-encodes, size_of-append}
-use Rattle.um_readable.specs.Places.{IsPlace}
+use Rattle.um_readable.specs.Places.{IsPlace, LexPlace}
+use Rattle.um_readable.specs.Laws.{LexicalFaultsHavePlaces}
 
 -- P holds of the place where each token begins
 abbrev pub AllStarts : (ℕ → Type 0) → List Token → Type 0
@@ -66,6 +70,57 @@ module _ (bytes : List ℕ) (utf8 : IsUtf8 bytes) where
       by : (b : Bool) → (c == 65279) ≡ b → Lexes [] (cond b 3 0) (cond b cs (c ∷ cs)) tokens → AllStarts (IsPlace bytes) tokens
       by true e l = let mark : c ≡ 65279 = eqb-true c 65279 e in lexes_start tokens [] 3 cs (c ∷ []) whole (ap (λ x. len_utf8 x + 0) (sym mark)) l
       by false e l = lexes_start tokens [] 0 (c ∷ cs) [] whole refl l
+
+module _ (bytes : List ℕ) (utf8 : IsUtf8 bytes) where
+  faulty_place : (before : List Token) (at : ℕ) (rest front : List ℕ) (stop : LexStop) → chars bytes ≡ front ++ rest → at ≡ size_of front → Faulty before at rest stop → LexPlace (IsPlace bytes) stop
+  faulty_place before at rest front stop whole is f = by stop f
+    where
+      here : IsPlace bytes at
+      here = subst (IsPlace bytes) (sym is) (place_after bytes utf8 front rest whole)
+
+      by : (s : LexStop) → Faulty before at rest s → LexPlace (IsPlace bytes) s
+      by (lex_stop.BadChar place) (inl g) = subst (IsPlace bytes) (sym g.0) here
+      by (lex_stop.BadChar place) (inr g) =
+          let text = numeral_text g.0 in
+          let cut = g.2.cut in
+          let behind : chars bytes ≡ (front ++ text) ++ g.1 = whole ∙ ap (λ xs. front ++ xs) cut ∙ sym (append_assoc front text g.1) in
+          let sizes = size_of-append front text in
+          let same : place ≡ size_of (front ++ text) = omega (arith, g.5, is, sizes) in
+          subst (IsPlace bytes) (sym same) (place_after bytes utf8 (front ++ text) g.1 behind)
+      by (lex_stop.NumberRange place) g = subst (IsPlace bytes) (sym g.0) here
+      by (lex_stop.PowerText place) g = subst (IsPlace bytes) (sym g.0) here
+      by lex_stop.NoMemory g = tt
+
+  refused_place : (tokens before : List Token) (at : ℕ) (cs front : List ℕ) (stop : LexStop) → chars bytes ≡ front ++ cs → at ≡ size_of front → Refuses before at cs tokens stop → LexPlace (IsPlace bytes) stop
+  refused_place [] before at cs front stop whole is r =
+      let begun = front ++ r.0 in
+      let here : chars bytes ≡ begun ++ r.1 = whole ∙ ap (λ xs. front ++ xs) r.2 ∙ sym (append_assoc front r.0 r.1) in
+      let sizes = size_of-append front r.0 in
+      let start : at + size_of r.0 ≡ size_of begun = omega (arith, is, sizes) in
+      faulty_place before (at + size_of r.0) r.1 begun stop here start r.4
+  refused_place (t ∷ ts) before at cs front stop whole is r =
+      let n = r.1 in
+      let text = text_of n.lexeme in
+      let begun = front ++ n.gap in
+      let here : chars bytes ≡ begun ++ (text ++ r.0) = whole ∙ ap (λ xs. front ++ xs) n.cut ∙ sym (append_assoc front n.gap (text ++ r.0)) in
+      let gap_size = size_of-append front n.gap in
+      let start : t.start ≡ size_of begun = omega (arith, n.start, is, gap_size) in
+      let ended = begun ++ text in
+      let after : chars bytes ≡ ended ++ r.0 = here ∙ sym (append_assoc begun text r.0) in
+      let text_size = size_of-append begun text in
+      let end : t.end ≡ size_of ended = omega (arith, n.end, start, text_size) in
+      refused_place ts (before ++ t ∷ []) t.end r.0 ended stop after end r.2
+
+  refused_in : (cs : List ℕ) (tokens : List Token) (stop : LexStop) → chars bytes ≡ cs → Refuses [] (body_place cs) (body cs) tokens stop → LexPlace (IsPlace bytes) stop
+  refused_in [] tokens stop whole r = refused_place tokens [] 0 [] [] stop whole refl r
+  refused_in (c ∷ cs) tokens stop whole r = by (c == 65279) refl r
+    where
+      by : (b : Bool) → (c == 65279) ≡ b → Refuses [] (cond b 3 0) (cond b cs (c ∷ cs)) tokens stop → LexPlace (IsPlace bytes) stop
+      by true e l = let mark : c ≡ 65279 = eqb-true c 65279 e in refused_place tokens [] 3 cs (c ∷ []) stop whole (ap (λ x. len_utf8 x + 0) (sym mark)) l
+      by false e l = refused_place tokens [] 0 (c ∷ cs) [] stop whole refl l
+
+pub lexical_faults_have_places : LexicalFaultsHavePlaces
+lexical_faults_have_places bytes stop utf8 fault = refused_in bytes utf8 (chars bytes) fault.0 stop refl fault.1
 
 pub tokens_start : (bytes : List ℕ) (tokens : List Token) → IsUtf8 bytes → HasTokens (chars bytes) tokens → AllStarts (IsPlace bytes) tokens
 tokens_start bytes tokens utf8 l = starts_in bytes utf8 (chars bytes) tokens refl l

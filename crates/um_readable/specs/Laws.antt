@@ -1,14 +1,21 @@
 -- What holds of all texts and of the programs that are read from them, by the definitions alone.
-use Rattle.std.specs.Prelude.{◌≡◌, ℕ, ◌≤◌, All, List, length, Ok}
+use Rattle.std.specs.Prelude.{◌≡◌, ℕ, ◌≤◌, All, List, length, Ok, Err}
+use Rattle.std.specs.Str.{chars, IsUtf8}
 use Rattle.um_syntax.specs.declared.token.Token.{Token}
-use Rattle.um_syntax.specs.Lexing.{HasTokens}
+use Rattle.um_syntax.specs.declared.token.LexStop.{LexStop}
+use Rattle.um_syntax.specs.Lexing.{HasTokens, HasFault}
 use Rattle.um_syntax.specs.Feeding.{IsTextAnswer}
 use Rattle.um_tree.specs.ProgramTree.{ProgramTree}
 use Rattle.um_tree.specs.RawTree.{DeclSyntax}
-use Rattle.um_parse.specs.Parsed.{IsRead}
+use Rattle.um_types.specs.declared.parse.ParseStop.{ParseStop}
+use Rattle.um_parse.specs.DeclGrammar.{IsProgram}
+use Rattle.um_parse.specs.Parsed.{Parsed, IsRead}
+use Rattle.um_measures.specs.declared.stop.NameStop.{NameStop}
+use Rattle.um_measures.specs.Stops.{IsFirst}
 use Rattle.um_names.specs.Readable.{IsReadable}
 use Rattle.um_names.specs.Resolution.{resolved_program}
-use Rattle.um_readable.specs.Places.{IsPlace, EachPlace}
+use Rattle.um_readable.specs.Places.{IsPlace, BeginsToken, BeginsTokenOrEnds, EachPlace, EachProgramPlace}
+use Rattle.um_readable.specs.Places.{LexPlace, ParsePlace, NamePlace}
 
 -- A text has no more tokens than characters.
 abbrev pub TokensAreWithin : Type 0
@@ -39,3 +46,34 @@ NodesHavePlaces =
     (bytes : List ℕ) (tokens : List Token) (ds : List DeclSyntax) (p : ProgramTree)
     → IsTextAnswer bytes (Ok tokens) → IsRead tokens ds → resolved_program ds ≡ Ok p
     → All (λ f. EachPlace (IsPlace bytes) f.body) p.functions
+
+-- ---- where texts are refused, and where tokens begin
+
+-- A text without tokens is refused at a character.
+abbrev pub LexicalFaultsHavePlaces : Type 0
+LexicalFaultsHavePlaces =
+    (bytes : List ℕ) (stop : LexStop) → IsUtf8 bytes → HasFault (chars bytes) stop → LexPlace (IsPlace bytes) stop
+
+-- Each token begins at a character of its text.
+abbrev pub TokensBeginCharacters : Type 0
+TokensBeginCharacters =
+    (bytes : List ℕ) (tokens : List Token) (at : ℕ) → IsTextAnswer bytes (Ok tokens) → BeginsToken tokens at
+    → IsPlace bytes at
+
+-- Tokens that are no program within the limits are refused where one of them begins, or at the end.
+abbrev pub SyntaxFaultsBeginTokens : Type 0
+SyntaxFaultsBeginTokens =
+    (tokens : List Token) (end : ℕ) (stop : ParseStop) → Parsed tokens end (Err stop)
+    → ParsePlace (BeginsTokenOrEnds tokens end) stop
+
+-- Each declared name and each node of a program has the place of a token.
+abbrev pub ProgramsBeginTokens : Type 0
+ProgramsBeginTokens =
+    (tokens : List Token) (ds : List DeclSyntax) (p : ProgramTree) → IsProgram tokens ds → resolved_program ds ≡ Ok p
+    → EachProgramPlace (BeginsToken tokens) p
+
+-- A name that stands for nothing is refused where a token begins.
+abbrev pub NameFaultsBeginTokens : Type 0
+NameFaultsBeginTokens =
+    (tokens : List Token) (ds : List DeclSyntax) (stop : NameStop) → IsProgram tokens ds
+    → IsFirst (resolved_program ds) stop → NamePlace (BeginsToken tokens) stop

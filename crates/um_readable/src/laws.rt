@@ -1,5 +1,7 @@
 //! Laws that join the tokens, the grammar and the names. A call does nothing: what it ensures is the law.
 ghost use Rattle.um_readable.specs.Laws.{TokensAreWithin, ReadProgramsAreReadable, NamesAreWithin, NodesHavePlaces};
+ghost use Rattle.um_readable.specs.Laws.{TokensBeginCharacters, SyntaxFaultsBeginTokens, ProgramsBeginTokens};
+ghost use Rattle.um_readable.specs.Laws.{LexicalFaultsHavePlaces, NameFaultsBeginTokens};
 
 /// A text has no more tokens than characters.
 pub fn tokens_are_within()
@@ -19,4 +21,14 @@ pub fn names_are_within()
 /// Each node of a program stands before a character of its text.
 pub fn nodes_have_places()
     ensures { NodesHavePlaces }
+{}
+
+/// Each place in a program, and each place where a text is refused for its syntax or its names, is that of a token, or
+/// the end of the text. A token begins at a character, and a text without tokens is refused at one.
+pub fn places_begin_tokens()
+    ensures tokens { TokensBeginCharacters }
+    ensures characters { LexicalFaultsHavePlaces }
+    ensures syntax { SyntaxFaultsBeginTokens }
+    ensures programs { ProgramsBeginTokens }
+    ensures names { NameFaultsBeginTokens }
 {}

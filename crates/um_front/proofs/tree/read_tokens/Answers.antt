@@ -1,5 +1,5 @@
 use Rattle.std.proofs.Common.{arith}
-use Rattle.um_readable.proofs.TextBytes.{tokens_within_bytes}
+use Rattle.um_syntax.proofs.TokenCounts.{tokens_within_bytes}
 use Rattle.um_front.proofs.tree.read_tokens.Goals as goal
 
 pub parse_tokens-requires : goal.parse_tokens-requires
