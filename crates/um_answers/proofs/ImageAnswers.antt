@@ -42,7 +42,7 @@ one_image_of p code image other a b =
 
 image_once : (text other : List ℕ) (status another : Status) (c : CheckedTree) → IsImageReply c text status → IsImageReply c other another → (text ≡ other) × (status ≡ another)
 unfolding IsImageReply
-image_once text other status another c (image, is, a) (found, also, b) =
+image_once text other status another c (image, is, fits, a) (found, also, too, b) =
     (a.0 ∙ ap image_bytes (one_image_of c.text.program (program_code c.text.program.functions) image found is also) ∙ sym b.0, a.1 ∙ sym b.1)
 
 pub image_one : (text other : List ℕ) (status another : Status) → AnswersAreUnique → (bytes : List ℕ) → ImageAnswer bytes text status → ImageAnswer bytes other another → (text ≡ other) × (status ≡ another)
@@ -51,7 +51,7 @@ image_one text other status another one bytes a b = checked_once IsImageReply by
 
 image_reply : (c : CheckedTree) (text : List ℕ) (status : Status) → IsImageReply c text status → status ≡ Done
 unfolding IsImageReply
-image_reply c text status (image, is, reply) = reply.1
+image_reply c text status (image, is, fits, reply) = reply.1
 
 image_status : (c : CheckedTree) (text : List ℕ) (status : Status) → IsImageReply c text status → IsTrue (is_answered status)
 image_status c text status reply = rw (image_reply c text status reply) refl

@@ -1,3 +1,4 @@
+mod AnnotLists
 mod CodeEntries
 mod SchemesGiven
 mod SchemesPrinted
@@ -6,4 +7,6 @@ pub mod ConformsDone
 pub mod ConformAnswers
 pub mod ImageAnswers
 pub mod RescaleAnswers
+mod LiteralPlaces
 pub mod TextAnswers
+pub mod AnnotAnswers

@@ -7,4 +7,8 @@ pub mod ConformAnswer
 pub mod RescaleAnswer
 pub mod ProveAnswer
 pub mod ImageAnswer
+pub mod AnnotAnswer
+pub mod Laws
 pub mod Passing
+-- What mirrors the code.
+pub mod AnnotSteps

@@ -6,8 +6,10 @@ use Rattle.um_tree.specs.TypeTree.{type_trees}
 use Rattle.um_tree.specs.Typing.{Typing}
 use Rattle.um_tree.specs.ProgramTree.{FunctionTree, ProgramTree, SchemeTree, Signature}
 use Rattle.um_measures.specs.Known.{number_of, function_names}
+use Rattle.um_rows.specs.NodeTypes.{TypedNode}
 use Rattle.um_infer.specs.Inference.{infer}
 use Rattle.um_infer.specs.Laws.{IsLimited}
+use Rattle.um_annot.specs.Annotated.{annotated, annotation}
 use Rattle.um_proof.specs.Proving.{PassesInFunction}
 use Rattle.um_scale.specs.RescaledLiterals.{misfit_in}
 use Rattle.um_sizes.specs.BaseSizes.{AreScalesRead}
@@ -34,6 +36,13 @@ pub record IsProvableText (bytes : List ℕ) : Type 0 where
   pub shaped : IsShapedText bytes text
   pub unlimited : IsLimited (infer text.program) → ⊥
   pub held : (i : ℕ) (number : ℤ) → PassesInFunction text.program i number → ⊥
+
+-- no node of a function's body has a type out of range
+abbrev pub HasNodeTypes : CheckedTree → Type 0
+HasNodeTypes c =
+    let p = c.text.program in
+    (i : ℕ) (f : FunctionTree) → slice_get p.functions i ≡ Some f →
+    (nodes : List TypedNode) × (annotation (length p.bases) p.records c.schemes i f ≡ annotated nodes)
 
 -- the function is there, the signature is read, each of its instances is a typing of the function, and no power passes
 -- the range while they are matched

@@ -1,7 +1,8 @@
 // The answer to `image`: the image of a program with its code.
-ghost use Rattle.std.specs.Prelude.{IfOk};
+ghost use Rattle.std.specs.Prelude.{IfOk, OnOk};
 ghost use Rattle.um_verify.specs.ImageTree.{image_tree, HasForm};
 ghost use Rattle.um_image.specs.Encoding.{image_bytes};
+ghost use Rattle.um_image.specs.Places.{IsWritable};
 ghost use Rattle.um_reports.specs.Steps.{IsReply};
 ghost use Rattle.um_front.specs.Parts.{checked_tree};
 ghost use Rattle.um_answers.specs.ImageAnswer.{ImageAnswer, IsImageReply};
@@ -46,8 +47,9 @@ fn reply_image(alloc: Global, checked: &Checked) -> Answer
 /// The bytes of the image.
 fn reply_encoded(alloc: Global, image: &Image) -> Answer
     requires form { HasForm (image_tree image.now) }
-    ensures { IfOk result (λ reply. IsReply reply.text.items reply.status
+    ensures reply { IfOk result (λ reply. IsReply reply.text.items reply.status
         (image_bytes (image_tree image.now)) Status.Done) }
+    ensures writable { OnOk result (IsWritable (image_tree image.now)) }
 {
     Ok(Reply {
         text: encode(alloc, image)?,

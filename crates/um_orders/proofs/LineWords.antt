@@ -24,7 +24,8 @@ calls_named word o e =
 module _ (word : List ℕ) (budget : ℕ) (is : IsBudget word budget) where
   run_by_count : (name : List ℕ) (more : List (List ℕ)) → order_by_count (codes "run" ∷ word ∷ name ∷ more) ≡ Some (Run budget)
   run_by_count name [] = ap (call_order (codes "run")) is.stated
-  run_by_count name (text ∷ more) = ap (call_order (codes "run")) is.stated
+  run_by_count name (text ∷ []) = ap (call_order (codes "run")) is.stated
+  run_by_count name (text ∷ another ∷ more) = ap (call_order (codes "run")) is.stated
 
   -- with words that are short enough, of which there is one at least
   pub run_named : (name : List ℕ) (more : List (List ℕ)) → list_all is_short (name ∷ more) ≡ true → order_of (codes "run" ∷ word ∷ name ∷ more) ≡ Some (Run budget)

@@ -7,16 +7,17 @@ use Rattle.std.specs.Str.{bytes_eq, all_ascii_digits}
 use Rattle.std.specs.Str.Parse.{digits_value, ParsesUnsigned}
 use Rattle.std.proofs.lemmas.Bool.{leb-true}
 use Rattle.std.proofs.lemmas.Str.Parse.{numerals_by_value, tells_all_ascii_digits, digits_value_short, parse_gives}
+use Rattle.std.proofs.lemmas.Slice.Eq.{bytes_eq-Decides}
 use Rattle.std.proofs.lemmas.List.Elements.{All-nil, All-cons}
 use Rattle.um_sizes.specs.ScaleWords.{is_scales}
 use Rattle.um_orders.specs.declared.order.Order.{Order}
-use Rattle.um_orders.specs.declared.order.Order.TheVariants.{Types, Code, Fmt, Tidy, Run, Steps, Eval, Trace, Conform, Rescale, Twin, Big, Prove, Image, Exec, Calls}
+use Rattle.um_orders.specs.declared.order.Order.TheVariants.{Types, Annot, Code, Fmt, Tidy, Run, Steps, Eval, Trace, Show, Conform, Rescale, Twin, Big, Prove, Image, Exec, Calls}
 use Rattle.um_orders.specs.declared.order.Intake.TheVariants.{Generated, Text, Bytes}
 use Rattle.um_orders.specs.declared.order.BytesOrder.{BytesOrder}
 use Rattle.um_orders.specs.declared.order.BytesOrder.TheVariants as bytes
 use Rattle.um_orders.specs.declared.order.TextOrder.{TextOrder}
 use Rattle.um_orders.specs.declared.order.TextOrder.TheVariants as text
-use Rattle.um_orders.specs.Orders.{is_short, are_few_digits, budget_of, states_count, count_of, big_order, rescale_order, calls_order, order_of_two, order_alone, call_order, order_of_three, twin_order, order_of_many, longer_order, order_by_count, order_of, intake_of, order_about, order_about_bytes}
+use Rattle.um_orders.specs.Orders.{is_short, are_few_digits, budget_of, states_count, count_of, states_digits, digits_of, big_order, rescale_order, calls_order, order_of_two, order_alone, call_order, order_of_three, twin_order, order_of_many, show_order, longest_order, longer_order, order_by_count, order_of, intake_of, order_about, order_about_bytes}
 
 pub both : (a b : Bool) → (a && b) ≡ true → (a ≡ true) × (b ≡ true)
 both true b e = (refl, e)
@@ -74,6 +75,31 @@ longer_of_more (w ∷ []) l = absurd (omega (arith, l))
 longer_of_more (w ∷ v ∷ []) l = absurd (omega (arith, l))
 longer_of_more (w ∷ v ∷ u ∷ ws) l = refl
 
+-- of four words, and of more, by the first three
+module _ (word second third : List ℕ) where
+  pub longer_of_four : (words : List (List ℕ)) → length words ≡ 4 → longer_order word second third (drop 3 words) ≡ order_of_many word (budget_of second) (is_scales third)
+  longer_of_four [] e = absurd (omega (arith, e))
+  longer_of_four (a ∷ []) e = absurd (omega (arith, e))
+  longer_of_four (a ∷ b ∷ []) e = absurd (omega (arith, e))
+  longer_of_four (a ∷ b ∷ c ∷ []) e = absurd (omega (arith, e))
+  longer_of_four (a ∷ b ∷ c ∷ d ∷ []) e = refl
+  longer_of_four (a ∷ b ∷ c ∷ d ∷ x ∷ ws) e = absurd (omega (arith, e))
+
+  pub longer_of_five : (words : List (List ℕ)) → 4 < length words → longer_order word second third (drop 3 words) ≡ longest_order word second third (get_or words 3 [])
+  longer_of_five [] l = absurd (omega (arith, l))
+  longer_of_five (a ∷ []) l = absurd (omega (arith, l))
+  longer_of_five (a ∷ b ∷ []) l = absurd (omega (arith, l))
+  longer_of_five (a ∷ b ∷ c ∷ []) l = absurd (omega (arith, l))
+  longer_of_five (a ∷ b ∷ c ∷ d ∷ []) l = absurd (omega (arith, l))
+  longer_of_five (a ∷ b ∷ c ∷ d ∷ x ∷ ws) l = refl
+
+-- of five words or more, if the first is another command's
+pub other_than_show : (word second third fourth : List ℕ) → (word ≡ codes "show" → ⊥) → longest_order word second third fourth ≡ order_of_many word (budget_of second) (is_scales third)
+other_than_show word second third fourth other = by (bytes_eq word (codes "show")) refl where
+  by : (t : Bool) → bytes_eq word (codes "show") ≡ t → (if t then show_order (digits_of second) (budget_of fourth) else order_of_many word (budget_of second) (is_scales third)) ≡ order_of_many word (budget_of second) (is_scales third)
+  by true e = absurd (other ((bytes_eq-Decides word (codes "show")).0 e))
+  by false e = refl
+
 -- ---- what words are beside the form of their order
 
 within_limit : (word : List ℕ) (n : ℕ) → budget_of word ≡ Some n → n ≤ 10000000
@@ -94,6 +120,15 @@ count_within word n e = by (are_few_digits word && states_count word) refl e whe
       (subst (λ k. 1 ≤ k) same (leb-true 1 (digits_value 10 word) least.1), subst (λ k. k ≤ 2000) same (leb-true (digits_value 10 word) 2000 bounds.1))
   by false s named = absurd (cc named)
 
+digits_within : (word : List ℕ) (n : ℕ) → digits_of word ≡ Some n → n ≤ 18
+digits_within word n e = by (are_few_digits word && states_digits word) refl e where
+  by : (t : Bool) → (are_few_digits word && states_digits word) ≡ t → (if t then Some (digits_value 10 word) else None) ≡ Some n → n ≤ 18
+  by true s named =
+      let same : digits_value 10 word ≡ n = cc named in
+      let bound = both (nat_le (length word) 2) (nat_le (digits_value 10 word) 18) (both (are_few_digits word) (states_digits word) s).1 in
+      subst (λ k. k ≤ 18) same (leb-true (digits_value 10 word) 18 bound.1)
+  by false s named = absurd (cc named)
+
 -- a call has a function's name and a budget within its limit, a generated program has few functions, and a word states
 -- sizes where one shall
 abbrev pub AreWordsOf : List (List ℕ) → Order → Type 0
@@ -101,6 +136,7 @@ AreWordsOf words (Run b) = (3 ≤ length words) × (b ≤ 10000000)
 AreWordsOf words (Steps b) = (3 ≤ length words) × (b ≤ 10000000)
 AreWordsOf words (Eval b) = (3 ≤ length words) × (b ≤ 10000000)
 AreWordsOf words (Trace b) = (3 ≤ length words) × (b ≤ 10000000)
+AreWordsOf words (Show d b) = (5 ≤ length words) × (d ≤ 18) × (b ≤ 10000000)
 AreWordsOf words Conform = 3 ≤ length words
 AreWordsOf words Rescale = (2 ≤ length words) × IsTrue (is_scales (get_or words 1 []))
 AreWordsOf words (Twin b) = (4 ≤ length words) × (b ≤ 10000000) × IsTrue (is_scales (get_or words 2 []))
@@ -110,15 +146,16 @@ AreWordsOf words (Calls b) = b ≤ 10000000
 AreWordsOf words order = Unit {0}
 
 words_alone : (word : List ℕ) (o : Order) → order_alone word ≡ Some o → AreWordsOf (word ∷ []) o
-words_alone word o e = by (bytes_eq word (codes "types")) (bytes_eq word (codes "code")) (bytes_eq word (codes "fmt")) (bytes_eq word (codes "tidy")) (bytes_eq word (codes "prove")) (bytes_eq word (codes "image")) e where
-  by : (s t u x v w : Bool) → (if s then Some Types else if t then Some Code else if u then Some Fmt else if x then Some Tidy else if v then Some Prove else if w then Some Image else None) ≡ Some o → AreWordsOf (word ∷ []) o
-  by true t u x v w named = let same : Types ≡ o = cc named in subst (AreWordsOf (word ∷ [])) same tt
-  by false true u x v w named = let same : Code ≡ o = cc named in subst (AreWordsOf (word ∷ [])) same tt
-  by false false true x v w named = let same : Fmt ≡ o = cc named in subst (AreWordsOf (word ∷ [])) same tt
-  by false false false true v w named = let same : Tidy ≡ o = cc named in subst (AreWordsOf (word ∷ [])) same tt
-  by false false false false true w named = let same : Prove ≡ o = cc named in subst (AreWordsOf (word ∷ [])) same tt
-  by false false false false false true named = let same : Image ≡ o = cc named in subst (AreWordsOf (word ∷ [])) same tt
-  by false false false false false false named = absurd (cc named)
+words_alone word o e = by (bytes_eq word (codes "types")) (bytes_eq word (codes "annot")) (bytes_eq word (codes "code")) (bytes_eq word (codes "fmt")) (bytes_eq word (codes "tidy")) (bytes_eq word (codes "prove")) (bytes_eq word (codes "image")) e where
+  by : (s a t u x v w : Bool) → (if s then Some Types else if a then Some Annot else if t then Some Code else if u then Some Fmt else if x then Some Tidy else if v then Some Prove else if w then Some Image else None) ≡ Some o → AreWordsOf (word ∷ []) o
+  by true a t u x v w named = let same : Types ≡ o = cc named in subst (AreWordsOf (word ∷ [])) same tt
+  by false true t u x v w named = let same : Annot ≡ o = cc named in subst (AreWordsOf (word ∷ [])) same tt
+  by false false true u x v w named = let same : Code ≡ o = cc named in subst (AreWordsOf (word ∷ [])) same tt
+  by false false false true x v w named = let same : Fmt ≡ o = cc named in subst (AreWordsOf (word ∷ [])) same tt
+  by false false false false true v w named = let same : Tidy ≡ o = cc named in subst (AreWordsOf (word ∷ [])) same tt
+  by false false false false false true w named = let same : Prove ≡ o = cc named in subst (AreWordsOf (word ∷ [])) same tt
+  by false false false false false false true named = let same : Image ≡ o = cc named in subst (AreWordsOf (word ∷ [])) same tt
+  by false false false false false false false named = absurd (cc named)
 
 words_of_two : (word second : List ℕ) (o : Order) → order_of_two word second ≡ Some o → AreWordsOf (word ∷ second ∷ []) o
 words_of_two word second o e = by (bytes_eq word (codes "big")) (count_of second) refl (bytes_eq word (codes "rescale")) (is_scales second) refl (bytes_eq word (codes "calls")) (budget_of second) refl e where
@@ -165,12 +202,26 @@ module _ (word second third fourth : List ℕ) (more : List (List ℕ)) where
     by true (Some n) is false so named = absurd (cc named)
     by false limit is stated so named = words_of_call (word ∷ second ∷ third ∷ fourth ∷ more) word limit o (omega arith) (λ n given. within_limit second n (is ∙ given)) named
 
+-- more words than four
+module _ (word second third fourth fifth : List ℕ) (more : List (List ℕ)) where
+  abbrev Most : Order → Type 0
+  Most o = AreWordsOf (word ∷ second ∷ third ∷ fourth ∷ fifth ∷ more) o
+
+  words_of_most : (o : Order) → longer_order word second third (fourth ∷ fifth ∷ more) ≡ Some o → Most o
+  words_of_most o e = by (bytes_eq word (codes "show")) (digits_of second) refl (budget_of fourth) refl e where
+    by : (t : Bool) (digits : Option ℕ) → digits_of second ≡ digits → (limit : Option ℕ) → budget_of fourth ≡ limit → (if t then show_order digits limit else order_of_many word (budget_of second) (is_scales third)) ≡ Some o → Most o
+    by true None few limit is named = absurd (cc named)
+    by true (Some d) few None is named = absurd (cc named)
+    by true (Some d) few (Some n) is named = let same : Show d n ≡ o = cc named in subst Most same (omega arith, digits_within second d few, within_limit fourth n is)
+    by false digits few limit is named = words_of_many word second third fourth (fifth ∷ more) o named
+
 words_by_count : (words : List (List ℕ)) (o : Order) → order_by_count words ≡ Some o → AreWordsOf words o
 words_by_count [] o e = absurd (cc e)
 words_by_count (w ∷ []) o e = words_alone w o e
 words_by_count (w ∷ v ∷ []) o e = words_of_two w v o e
 words_by_count (w ∷ v ∷ u ∷ []) o e = words_of_three w v u o e
-words_by_count (w ∷ v ∷ u ∷ x ∷ ws) o e = words_of_many w v u x ws o e
+words_by_count (w ∷ v ∷ u ∷ x ∷ []) o e = words_of_many w v u x [] o e
+words_by_count (w ∷ v ∷ u ∷ x ∷ y ∷ ws) o e = words_of_most w v u x y ws o e
 
 pub words_of_order : (words : List (List ℕ)) (o : Order) → order_of words ≡ Some o → AreWordsOf words o
 words_of_order words o e = words_by_count words o (named_by_count words o e).1
@@ -179,6 +230,7 @@ words_of_order words o e = words_by_count words o (named_by_count words o e).1
 
 pub order_of_text : (o : Order) (t : TextOrder) → intake_of o ≡ Text t → o ≡ order_about t
 order_of_text Types t takes = let same : text.Types ≡ t = cc takes in ap order_about same
+order_of_text Annot t takes = let same : text.Annot ≡ t = cc takes in ap order_about same
 order_of_text Code t takes = let same : text.Code ≡ t = cc takes in ap order_about same
 order_of_text Fmt t takes = let same : text.Fmt ≡ t = cc takes in ap order_about same
 order_of_text Tidy t takes = let same : text.Tidy ≡ t = cc takes in ap order_about same
@@ -186,6 +238,7 @@ order_of_text (Run b) t takes = let same : text.Run b ≡ t = cc takes in ap ord
 order_of_text (Steps b) t takes = let same : text.Steps b ≡ t = cc takes in ap order_about same
 order_of_text (Eval b) t takes = let same : text.Eval b ≡ t = cc takes in ap order_about same
 order_of_text (Trace b) t takes = let same : text.Trace b ≡ t = cc takes in ap order_about same
+order_of_text (Show d b) t takes = let same : text.Show d b ≡ t = cc takes in ap order_about same
 order_of_text Conform t takes = let same : text.Conform ≡ t = cc takes in ap order_about same
 order_of_text Rescale t takes = let same : text.Rescale ≡ t = cc takes in ap order_about same
 order_of_text (Twin b) t takes = let same : text.Twin b ≡ t = cc takes in ap order_about same
@@ -198,6 +251,7 @@ order_of_text (Calls b) t takes = absurd (cc takes)
 pub order_of_generated : (o : Order) (n : ℕ) → intake_of o ≡ Generated n → o ≡ Big n
 order_of_generated (Big k) n takes = let same : k ≡ n = cc takes in ap Big same
 order_of_generated Types n takes = absurd (cc takes)
+order_of_generated Annot n takes = absurd (cc takes)
 order_of_generated Code n takes = absurd (cc takes)
 order_of_generated Fmt n takes = absurd (cc takes)
 order_of_generated Tidy n takes = absurd (cc takes)
@@ -205,6 +259,7 @@ order_of_generated (Run b) n takes = absurd (cc takes)
 order_of_generated (Steps b) n takes = absurd (cc takes)
 order_of_generated (Eval b) n takes = absurd (cc takes)
 order_of_generated (Trace b) n takes = absurd (cc takes)
+order_of_generated (Show d b) n takes = absurd (cc takes)
 order_of_generated Conform n takes = absurd (cc takes)
 order_of_generated Rescale n takes = absurd (cc takes)
 order_of_generated (Twin b) n takes = absurd (cc takes)
@@ -217,6 +272,7 @@ pub order_of_bytes : (o : Order) (b : BytesOrder) → intake_of o ≡ Bytes b �
 order_of_bytes (Exec n) b takes = let same : bytes.Exec n ≡ b = cc takes in ap order_about_bytes same
 order_of_bytes (Calls n) b takes = let same : bytes.Calls n ≡ b = cc takes in ap order_about_bytes same
 order_of_bytes Types b takes = absurd (cc takes)
+order_of_bytes Annot b takes = absurd (cc takes)
 order_of_bytes Code b takes = absurd (cc takes)
 order_of_bytes Fmt b takes = absurd (cc takes)
 order_of_bytes Tidy b takes = absurd (cc takes)
@@ -224,6 +280,7 @@ order_of_bytes (Run n) b takes = absurd (cc takes)
 order_of_bytes (Steps n) b takes = absurd (cc takes)
 order_of_bytes (Eval n) b takes = absurd (cc takes)
 order_of_bytes (Trace n) b takes = absurd (cc takes)
+order_of_bytes (Show d n) b takes = absurd (cc takes)
 order_of_bytes Conform b takes = absurd (cc takes)
 order_of_bytes Rescale b takes = absurd (cc takes)
 order_of_bytes (Twin n) b takes = absurd (cc takes)

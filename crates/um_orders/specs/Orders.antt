@@ -8,8 +8,9 @@ use Rattle.std.specs.Str.{bytes_eq}
 use Rattle.std.specs.Str.Parse.{digits_value}
 use Rattle.um_sizes.specs.ScaleWords.{is_scales}
 use Rattle.um_orders.specs.declared.order.Order.{Order}
-use Rattle.um_orders.specs.declared.order.Order.TheVariants.{Types, Code, Fmt, Tidy, Run, Steps, Eval, Trace, Conform}
-use Rattle.um_orders.specs.declared.order.Order.TheVariants.{Rescale, Twin, Big, Prove, Image, Exec, Calls}
+use Rattle.um_orders.specs.declared.order.Order.TheVariants.{Types, Annot, Code, Fmt, Tidy, Run, Steps, Eval, Trace}
+use Rattle.um_orders.specs.declared.order.Order.TheVariants.{Show, Conform, Rescale, Twin}
+use Rattle.um_orders.specs.declared.order.Order.TheVariants.{Big, Prove, Image, Exec, Calls}
 use Rattle.um_orders.specs.declared.order.Intake.{Intake}
 use Rattle.um_orders.specs.declared.order.Intake.TheVariants.{Generated, Text, Bytes}
 use Rattle.um_orders.specs.declared.order.BytesOrder.{BytesOrder}
@@ -40,12 +41,20 @@ states_count word =
 abbrev pub count_of : List ℕ → Option ℕ
 count_of word = if are_few_digits word && states_count word then Some (digits_value 10 word) else None
 
+-- at most two digits of value at most 18: how many digits after the point are printed
+abbrev pub states_digits : List ℕ → Bool
+states_digits word = nat_le (length word) 2 && nat_le (digits_value 10 word) 18
+
+abbrev pub digits_of : List ℕ → Option ℕ
+digits_of word = if are_few_digits word && states_digits word then Some (digits_value 10 word) else None
+
 -- ---- the forms
 
 -- a command of one word
 abbrev pub order_alone : List ℕ → Option Order
 order_alone word =
     if bytes_eq word (codes "types") then Some Types
+    else if bytes_eq word (codes "annot") then Some Annot
     else if bytes_eq word (codes "code") then Some Code
     else if bytes_eq word (codes "fmt") then Some Fmt
     else if bytes_eq word (codes "tidy") then Some Tidy
@@ -96,10 +105,23 @@ abbrev pub order_of_many : List ℕ → Option ℕ → Bool → Option Order
 order_of_many word budget stated =
     if bytes_eq word (codes "twin") then twin_order budget stated else call_order word budget
 
+-- show DIGITS UNITS BUDGET NAME ARG*, by the digits and the budget; UNITS is any word here
+abbrev pub show_order : Option ℕ → Option ℕ → Option Order
+show_order None budget = None
+show_order (Some digits) None = None
+show_order (Some digits) (Some budget) = Some (Show digits budget)
+
+-- five words or more
+abbrev pub longest_order : List ℕ → List ℕ → List ℕ → List ℕ → Option Order
+longest_order word second third fourth =
+    if bytes_eq word (codes "show") then show_order (digits_of second) (budget_of fourth)
+    else order_of_many word (budget_of second) (is_scales third)
+
 -- by the first three words and those after them
 abbrev pub longer_order : List ℕ → List ℕ → List ℕ → List (List ℕ) → Option Order
 longer_order word second third [] = order_of_three word (budget_of second)
-longer_order word second third (fourth ∷ more) = order_of_many word (budget_of second) (is_scales third)
+longer_order word second third (fourth ∷ []) = order_of_many word (budget_of second) (is_scales third)
+longer_order word second third (fourth ∷ fifth ∷ more) = longest_order word second third fourth
 
 abbrev pub order_by_count : List (List ℕ) → Option Order
 order_by_count [] = None
@@ -116,6 +138,7 @@ order_of words = if list_all is_short words then order_by_count words else None
 -- what an order takes from the source, and what is asked of it
 abbrev pub intake_of : Order → Intake
 intake_of Types = Text text.Types
+intake_of Annot = Text text.Annot
 intake_of Code = Text text.Code
 intake_of Fmt = Text text.Fmt
 intake_of Tidy = Text text.Tidy
@@ -123,6 +146,7 @@ intake_of (Run budget) = Text (text.Run budget)
 intake_of (Steps budget) = Text (text.Steps budget)
 intake_of (Eval budget) = Text (text.Eval budget)
 intake_of (Trace budget) = Text (text.Trace budget)
+intake_of (Show digits budget) = Text (text.Show digits budget)
 intake_of Conform = Text text.Conform
 intake_of Rescale = Text text.Rescale
 intake_of (Twin budget) = Text (text.Twin budget)
@@ -135,6 +159,7 @@ intake_of (Calls budget) = Bytes (bytes.Calls budget)
 -- the order that asks this of a text
 abbrev pub order_about : TextOrder → Order
 order_about text.Types = Types
+order_about text.Annot = Annot
 order_about text.Code = Code
 order_about text.Fmt = Fmt
 order_about text.Tidy = Tidy
@@ -142,6 +167,7 @@ order_about (text.Run budget) = Run budget
 order_about (text.Steps budget) = Steps budget
 order_about (text.Eval budget) = Eval budget
 order_about (text.Trace budget) = Trace budget
+order_about (text.Show digits budget) = Show digits budget
 order_about text.Conform = Conform
 order_about text.Rescale = Rescale
 order_about (text.Twin budget) = Twin budget

@@ -4,18 +4,22 @@ ghost use Rattle.std.specs.Char.{is_ascii_digit};
 ghost use Rattle.std.specs.List.{list_all};
 ghost use Rattle.std.specs.Str.Parse.{digits_value};
 ghost use Rattle.um_orders.specs.Orders.{order_of as order_named, order_alone as alone, longer_order as longer};
+ghost use Rattle.um_orders.specs.Orders.{longest_order as longest};
 ghost use Rattle.um_sizes.specs.ScaleWords.{is_scales as are_sizes};
 ghost use Rattle.um_orders.specs.Orders.{order_of_two as of_two, big_order as big_named, count_of as count_in};
 ghost use Rattle.um_orders.specs.Orders.{order_of_three as of_three, order_of_many as of_many};
 ghost use Rattle.um_orders.specs.Orders.{rescale_order as rescale_named, twin_order as twin_named};
 ghost use Rattle.um_orders.specs.Orders.{call_order as call_named, budget_of as budget_in, are_few_digits};
-ghost use Rattle.um_orders.specs.Orders.{calls_order as calls_named};
+ghost use Rattle.um_orders.specs.Orders.{calls_order as calls_named, show_order as show_named, digits_of as digits_in};
 ghost use Rattle.um_orders.specs.Orders.{intake_of};
 
 use crate::Words;
 
 /// The greatest budget of calls.
 const GREATEST_BUDGET: u64 = 10_000_000;
+
+/// The most digits after the point of a printed number.
+const MOST_DIGITS: u64 = 18;
 
 /// The most functions of a generated program.
 const MOST_FUNCTIONS: u64 = 2000;
@@ -25,6 +29,8 @@ const MOST_FUNCTIONS: u64 = 2000;
 pub enum Order {
     /// Print the scheme of each function.
     Types,
+    /// Print the same, and after each scheme the place and the type of each node of the function's body.
+    Annot,
     /// Print the listing of the program's code.
     Code,
     /// Print the program in its layout.
@@ -39,6 +45,8 @@ pub enum Order {
     Eval { budget: u64 },
     /// Call a function with at most so many calls, and print its value, or where the call stops.
     Trace { budget: u64 },
+    /// Call a function with at most so many calls, and print its value with so many digits after the point.
+    Show { digits: u32, budget: u64 },
     /// Say whether a function may be used at a signature.
     Conform,
     /// Print the program with its literals in other sizes of the base units.
@@ -72,6 +80,7 @@ pub enum Intake {
 #[derive(Clone, Copy)]
 pub enum TextOrder {
     Types,
+    Annot,
     Code,
     Fmt,
     Tidy,
@@ -79,6 +88,7 @@ pub enum TextOrder {
     Steps { budget: u64 },
     Eval { budget: u64 },
     Trace { budget: u64 },
+    Show { digits: u32, budget: u64 },
     Conform,
     Rescale,
     Twin { budget: u64 },
@@ -102,6 +112,7 @@ impl Order {
     {
         match self {
             Order::Types => Intake::Text(TextOrder::Types),
+            Order::Annot => Intake::Text(TextOrder::Annot),
             Order::Code => Intake::Text(TextOrder::Code),
             Order::Fmt => Intake::Text(TextOrder::Fmt),
             Order::Tidy => Intake::Text(TextOrder::Tidy),
@@ -109,6 +120,7 @@ impl Order {
             Order::Steps { budget } => Intake::Text(TextOrder::Steps { budget }),
             Order::Eval { budget } => Intake::Text(TextOrder::Eval { budget }),
             Order::Trace { budget } => Intake::Text(TextOrder::Trace { budget }),
+            Order::Show { digits, budget } => Intake::Text(TextOrder::Show { digits, budget }),
             Order::Conform => Intake::Text(TextOrder::Conform),
             Order::Rescale => Intake::Text(TextOrder::Rescale),
             Order::Twin { budget } => Intake::Text(TextOrder::Twin { budget }),
@@ -123,11 +135,12 @@ impl Order {
 
 /// The order that the words name, or nothing if they have none of the forms. Takes no memory.
 ///
-/// The forms are `types`, `code`, `fmt`, `tidy`, `prove`, `image`, `big N`, `rescale SIZES`, `calls BUDGET`,
-/// `conform NAME TYPE`, `twin BUDGET SIZES NAME ARG*`, and `run`, `steps`, `eval`, `trace` or `exec` with
-/// BUDGET NAME ARG*. A budget is one to eight digits of value at most 10,000,000, N is one to four digits of value 1 to
-/// 2,000, SIZES states sizes of base units (`um_sizes::is_scales` says how), and each word is at most 1,048,576 bytes
-/// long.
+/// The forms are `types`, `annot`, `code`, `fmt`, `tidy`, `prove`, `image`, `big N`, `rescale SIZES`, `calls BUDGET`,
+/// `conform NAME TYPE`, `twin BUDGET SIZES NAME ARG*`, `show DIGITS UNITS BUDGET NAME ARG*`, and `run`, `steps`, `eval`,
+/// `trace` or `exec` with BUDGET NAME ARG*. A budget is one to eight digits of value at most 10,000,000, N is one to
+/// four digits of value 1 to 2,000, DIGITS is one or two digits of value at most 18, SIZES states sizes of base units
+/// (`um_sizes::is_scales` says how), and each word is at most 1,048,576 bytes long. UNITS is any word here: whether it
+/// states units (`um_display::is_units`) is asked before anything is read.
 pub fn order_of(words: &Words) -> Option<Order>
     ensures { result ≡ order_named words.now }
 {
@@ -152,6 +165,7 @@ fn order_alone(word: &str) -> Option<Order>
 {
     match word {
         "types" => Some(Order::Types),
+        "annot" => Some(Order::Annot),
         "code" => Some(Order::Code),
         "fmt" => Some(Order::Fmt),
         "tidy" => Some(Order::Tidy),
@@ -206,6 +220,30 @@ fn longer_order(words: &Words) -> Option<Order>
     if words.len() == 3 {
         return order_of_three(words.word(0), budget_of(words.word(1)));
     }
+    if words.len() == 4 {
+        return sized_order(words);
+    }
+    longest_order(words)
+}
+
+/// The order of five words or more.
+fn longest_order(words: &Words) -> Option<Order>
+    requires { 4 < length words.now }
+    ensures { result
+        ≡ longest (get_or words.now 0 []) (get_or words.now 1 []) (get_or words.now 2 []) (get_or words.now 3 []) }
+{
+    match words.word(0) {
+        "show" => show_order(digits_of(words.word(1)), budget_of(words.word(3))),
+        _ => sized_order(words),
+    }
+}
+
+/// The order of more than three words whose third one may state sizes.
+fn sized_order(words: &Words) -> Option<Order>
+    requires { 3 < length words.now }
+    ensures { result ≡ of_many (get_or words.now 0 []) (budget_in (get_or words.now 1 []))
+        (are_sizes (get_or words.now 2 [])) }
+{
     order_of_many(
         words.word(0),
         budget_of(words.word(1)),
@@ -245,6 +283,15 @@ fn twin_order(budget: Option<u64>, stated: bool) -> Option<Order>
     }
 }
 
+/// The order that prints a value with so many digits, if they and the budget are stated.
+fn show_order(digits: Option<u32>, budget: Option<u64>) -> Option<Order>
+    ensures { result ≡ show_named digits budget }
+{
+    let digits = digits?;
+    let budget = budget?;
+    Some(Order::Show { digits, budget })
+}
+
 /// The order that calls a function, by its first word and the budget.
 fn call_order(word: &str, budget: Option<u64>) -> Option<Order>
     ensures { result ≡ call_named word.now budget }
@@ -270,6 +317,21 @@ fn budget_of(word: &str) -> Option<u64>
     let budget = value_of(word);
     if budget <= GREATEST_BUDGET {
         Some(budget)
+    } else {
+        None
+    }
+}
+
+/// The number of digits that a word states, if it is one or two digits of value at most 18.
+fn digits_of(word: &str) -> Option<u32>
+    ensures { result ≡ digits_in word.now }
+{
+    if !has_few_digits(word) {
+        return None;
+    }
+    let digits = value_of(word);
+    if word.len() <= 2 && digits <= MOST_DIGITS {
+        Some(digits as u32)
     } else {
         None
     }

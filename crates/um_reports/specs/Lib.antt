@@ -2,6 +2,7 @@
 pub mod Numbers
 pub mod Steps
 pub mod Places
+pub mod Cursors
 pub mod Refusals
 pub mod CallRefusals
 pub mod ScaleRefusals

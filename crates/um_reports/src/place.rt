@@ -78,7 +78,7 @@ fn position_of(before: &[u8]) -> u64
     position
 }
 
-fn begins_character(byte: u8) -> bool
+pub(crate) fn begins_character(byte: u8) -> bool
     ensures { result ≡ begins byte }
 {
     byte < 128 || byte >= 192

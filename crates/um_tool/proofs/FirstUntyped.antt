@@ -8,7 +8,7 @@ use Rattle.um_infer.specs.Schemes.{ArePrincipal, IsFirstUntyped}
 use Rattle.um_infer.specs.Laws.{IsLimited}
 use Rattle.um_infer.proofs.InferenceLaws.{schemes_are_given_to_typed, units_stop_at_first_untyped, not_general_stops_at_first_untyped}
 use Rattle.um_orders.specs.declared.order.Order.{Order}
-use Rattle.um_orders.specs.declared.order.Order.TheVariants.{Types, Code, Fmt, Tidy, Run, Steps, Eval, Trace, Conform, Rescale, Twin, Big, Prove, Image, Exec, Calls}
+use Rattle.um_orders.specs.declared.order.Order.TheVariants.{Types, Annot, Code, Fmt, Tidy, Run, Steps, Eval, Trace, Show, Conform, Rescale, Twin, Big, Prove, Image, Exec, Calls}
 use Rattle.um_reports.specs.declared.status.Status.{Status}
 use Rattle.um_reports.specs.Refusals.{placed, units_label, not_general_label}
 use Rattle.um_front.specs.Stages.{ShapedTree, CheckedTree, IsCheckedText}
@@ -16,6 +16,7 @@ use Rattle.um_front.specs.Refused.{IsUntypedReply, IsUnchecked}
 use Rattle.um_front.specs.Staged.{OfChecked}
 use Rattle.um_front.proofs.CheckedTexts.{shaped_is_formed, schemes_are_principal}
 use Rattle.um_answers.specs.TypesAnswer.{scheme_lines, IsSchemeList, TypesAnswer}
+use Rattle.um_answers.specs.AnnotAnswer.{IsAnnotReply, AnnotAnswer}
 use Rattle.um_answers.specs.CodeAnswer.{IsListing, CodeAnswer}
 use Rattle.um_answers.specs.ConformAnswer.{IsConformAnswer, ConformAnswer}
 use Rattle.um_answers.specs.RescaleAnswer.{IsRescaled, RescaleAnswer}
@@ -26,11 +27,13 @@ use Rattle.um_call_answers.specs.AskedCall.{AskedCall}
 use Rattle.um_call_answers.specs.CallAnswer.{IsCallAnswer, CallAnswer}
 use Rattle.um_call_answers.specs.TwinAnswer.{IsTwinAnswer, TwinAnswer}
 use Rattle.um_trace_answers.specs.TraceAnswer.{IsTraceAnswer, TraceAnswer}
+use Rattle.um_display_answers.specs.ShowAnswer.{IsShowAnswer, ShowAnswer}
 use Rattle.um_tool.specs.Asked.{called, held_name, signature_text, rescale_sizes, twin_sizes, called_twice}
+use Rattle.um_tool.specs.Asked.{shown_units, called_shown, StatesUnits}
 use Rattle.um_tool.specs.Answer.{Answer, ByOrder}
 use Rattle.um_tool.specs.Headline.{SpellsProgram, EachIsTyped, PrintsSchemes, SchemesOrFirstUntyped, names_untyped, NamesFirstUntyped, TypesAreSchemesOrFirstUntyped, NeedsSchemes, EachOrderNamesFirstUntyped}
 use Rattle.um_tool.proofs.PrintedSchemes.{types_ordered, one_function}
-use Rattle.um_tool.proofs.ProgramStatuses.{types_not_named, code_not_named, image_not_named, call_not_named, trace_not_named, conform_not_named, rescale_not_named, twin_not_named}
+use Rattle.um_tool.proofs.ProgramStatuses.{types_not_named, annot_not_named, code_not_named, image_not_named, call_not_named, trace_not_named, show_not_named, conform_not_named, rescale_not_named, twin_not_named}
 use Rattle.um_tool.proofs.ShapedTexts.{one_shaped, shaped_is_not_refused}
 
 module _ (bytes : List ℕ) (s : ShapedTree) (spells : SpellsProgram bytes s) (text : List ℕ) (status : Status) where
@@ -103,27 +106,31 @@ module _ (bytes : List ℕ) (s : ShapedTree) (spells : SpellsProgram bytes s) (t
   unfolding CallAnswer
   call_typed_or_refused w asked answer = typed_or_refused (IsCallAnswer w asked) (call_not_named text status w asked) answer
 
-  by_order : (order : Order) (words : List (List ℕ)) → NeedsSchemes order → ByOrder order words bytes text status → IsTypedOrNamed
-  unfolding TypesAnswer CodeAnswer TraceAnswer ConformAnswer RescaleAnswer TwinAnswer ImageAnswer
-  by_order Types words needs answer = typed_or_refused IsSchemeList (types_not_named text status) answer
-  by_order Code words needs answer = typed_or_refused IsListing (code_not_named text status) answer
-  by_order Fmt words needs answer = absurd needs
-  by_order Tidy words needs answer = absurd needs
-  by_order (Run budget) words needs answer = call_typed_or_refused way.Code (called budget words) answer
-  by_order (Steps budget) words needs answer = call_typed_or_refused way.Counted (called budget words) answer
-  by_order (Eval budget) words needs answer = call_typed_or_refused way.Tree (called budget words) answer
-  by_order (Trace budget) words needs answer =
+  by_order : (order : Order) (words : List (List ℕ)) → NeedsSchemes order → StatesUnits order words → ByOrder order words bytes text status → IsTypedOrNamed
+  unfolding TypesAnswer AnnotAnswer CodeAnswer TraceAnswer ShowAnswer ConformAnswer RescaleAnswer TwinAnswer ImageAnswer
+  by_order Types words needs units answer = typed_or_refused IsSchemeList (types_not_named text status) answer
+  by_order Annot words needs units answer = typed_or_refused (IsAnnotReply bytes) (annot_not_named text status bytes) answer
+  by_order Code words needs units answer = typed_or_refused IsListing (code_not_named text status) answer
+  by_order Fmt words needs units answer = absurd needs
+  by_order Tidy words needs units answer = absurd needs
+  by_order (Run budget) words needs units answer = call_typed_or_refused way.Code (called budget words) answer
+  by_order (Steps budget) words needs units answer = call_typed_or_refused way.Counted (called budget words) answer
+  by_order (Eval budget) words needs units answer = call_typed_or_refused way.Tree (called budget words) answer
+  by_order (Trace budget) words needs units answer =
       typed_or_refused (IsTraceAnswer (called budget words) bytes) (trace_not_named text status (called budget words) bytes) answer
-  by_order Conform words needs answer =
+  by_order (Show digits budget) words needs units (inl (stated, answer)) =
+      typed_or_refused (IsShowAnswer digits (shown_units words) (called_shown budget words)) (show_not_named text status digits (shown_units words) (called_shown budget words)) answer
+  by_order (Show digits budget) words needs units (inr (none, reply)) = absurd (none units)
+  by_order Conform words needs units answer =
       typed_or_refused (IsConformAnswer (held_name words) (signature_text words)) (conform_not_named text status (held_name words) (signature_text words)) answer
-  by_order Rescale words needs answer = typed_or_refused (IsRescaled (rescale_sizes words) bytes) (rescale_not_named text status (rescale_sizes words) bytes) answer
-  by_order (Twin budget) words needs answer =
+  by_order Rescale words needs units answer = typed_or_refused (IsRescaled (rescale_sizes words) bytes) (rescale_not_named text status (rescale_sizes words) bytes) answer
+  by_order (Twin budget) words needs units answer =
       typed_or_refused (IsTwinAnswer (twin_sizes words) (called_twice budget words) bytes) (twin_not_named text status (twin_sizes words) (called_twice budget words) bytes) answer
-  by_order (Big n) words needs answer = absurd needs
-  by_order Prove words needs answer = absurd needs
-  by_order Image words needs answer = typed_or_refused IsImageReply (image_not_named text status) answer
-  by_order (Exec budget) words needs answer = absurd needs
-  by_order (Calls budget) words needs answer = absurd needs
+  by_order (Big n) words needs units answer = absurd needs
+  by_order Prove words needs units answer = absurd needs
+  by_order Image words needs units answer = typed_or_refused IsImageReply (image_not_named text status) answer
+  by_order (Exec budget) words needs units answer = absurd needs
+  by_order (Calls budget) words needs units answer = absurd needs
 
 pub types_are_schemes_or_first_untyped : TypesAreSchemesOrFirstUntyped
 unfolding Answer
@@ -133,6 +140,6 @@ types_are_schemes_or_first_untyped bytes s spells text status answer =
 
 pub each_order_names_first_untyped : EachOrderNamesFirstUntyped
 unfolding Answer
-each_order_names_first_untyped order words bytes s needs ordered spells text status answer =
+each_order_names_first_untyped order words bytes s needs units ordered spells text status answer =
     let given : ByOrder order words bytes text status = rw ordered at answer in
-    by_order bytes s spells text status order words needs given
+    by_order bytes s spells text status order words needs units given

@@ -6,6 +6,7 @@ use Rattle.um_tree.specs.ValueTree.{ValueTree, OutcomeTree, value_outcome, trap_
 use Rattle.um_tree.specs.ProgramTree.{ProgramTree}
 use Rattle.um_tree.specs.Meaning.{Stop, trap, budget_end}
 use Rattle.um_measures.specs.Known.{number_of, function_names}
+use Rattle.um_measures.specs.ClosedUnits.{given}
 use Rattle.um_scale.specs.RescaledLiterals.{misfit_in, rescaled_program}
 use Rattle.um_scale.specs.RescaledText.{IsRescaledText}
 use Rattle.um_sizes.specs.declared.read.ScalesRefusal.{ScalesRefusal}
@@ -21,6 +22,7 @@ use Rattle.um_reports.specs.CallRefusals.{IsUnnamedReply, IsConformReply}
 use Rattle.um_reports.specs.ScaleRefusals.{IsSizesReply, IsLiteralReply, IsMisfitReply}
 use Rattle.um_front.specs.Stages.{CheckedTree}
 use Rattle.um_answers.specs.TypesAnswer.{IsSchemeList}
+use Rattle.um_answers.specs.AnnotAnswer.{Listing, listed, past, listing, IsListingReply, IsAnnotReply}
 use Rattle.um_answers.specs.CodeAnswer.{IsListing}
 use Rattle.um_answers.specs.ConformAnswer.{IsConformAnswer, SignatureAnswer, BySignature, MatchingAnswer}
 use Rattle.um_answers.specs.RescaleAnswer.{LiteralsAnswer, BySizes, IsRescaled}
@@ -31,6 +33,11 @@ use Rattle.um_call_answers.specs.OfCall.{OfCall}
 use Rattle.um_call_answers.specs.CallAnswer.{IsCallAnswer, RunAnswer, IsOutcomeReply}
 use Rattle.um_call_answers.specs.TwinAnswer.{AreValueReplies, IsStopReply, AreOutcomeReplies, TwinRunAnswer, misfit_among, InputsAnswer, TwinLiteralsAnswer, ByTwinSizes, IsTwinAnswer}
 use Rattle.um_trace_answers.specs.TraceAnswer.{IsStopTold, IsTracedEnd, TracedRun, IsTraceAnswer}
+use Rattle.um_display.specs.declared.unit.DisplayUnit.{DisplayUnit}
+use Rattle.um_display.specs.declared.unit.UnitsStop.{UnitsStop}
+use Rattle.um_display.specs.declared.unit.UnitsStop.TheVariants as units_stop
+use Rattle.um_display.specs.DisplayUnits.{display_units}
+use Rattle.um_display_answers.specs.ShowAnswer.{IsDisplayedEnd, DisplayedRun, ByUnits, IsShowAnswer}
 use Rattle.um_tool.specs.Headline.{names_untyped}
 use Rattle.um_tool.proofs.CallsMeant.{refuted, call_fails, signature_fails}
 use Rattle.um_tool.proofs.CallStages.{call_stage, twin_stage}
@@ -46,12 +53,19 @@ module _ (text : List ℕ) (status : Status) where
   pub types_not_named : (c : CheckedTree) → IsSchemeList c text status → Named → ⊥
   types_not_named c reply = not_named Done reply.1 refl
 
+  listing_not_named : (bytes : List ℕ) (l : Listing) → IsListingReply bytes l text status → Named → ⊥
+  listing_not_named bytes (listed lines) reply = not_named Done reply.1 refl
+  listing_not_named bytes (past f at) reply = not_named PowerRange reply.1 refl
+
+  pub annot_not_named : (bytes : List ℕ) (c : CheckedTree) → IsAnnotReply bytes c text status → Named → ⊥
+  annot_not_named bytes c reply = listing_not_named bytes (listing bytes c.text.program c.schemes 0 c.text.program.functions c.schemes) reply
+
   pub code_not_named : (c : CheckedTree) → IsListing c text status → Named → ⊥
   code_not_named c reply = not_named Done reply.1 refl
 
   pub image_not_named : (c : CheckedTree) → IsImageReply c text status → Named → ⊥
   unfolding IsImageReply
-  image_not_named c (image, is, reply) = not_named Done reply.1 refl
+  image_not_named c (image, is, fits, reply) = not_named Done reply.1 refl
 
   -- ---- calls
   outcome_not_named : (p : ProgramTree) (t : TypeTree) (o : OutcomeTree) (steps : Option ℕ) → IsOutcomeReply p t o steps text status → Named → ⊥
@@ -90,6 +104,29 @@ module _ (text : List ℕ) (status : Status) where
   pub trace_not_named : (asked : AskedCall) (bytes : List ℕ) (c : CheckedTree) → IsTraceAnswer asked bytes c text status → Named → ⊥
   unfolding IsTraceAnswer
   trace_not_named asked bytes c answer = of_call_not_named (TracedRun bytes asked.budget) asked c (traced_not_named bytes asked.budget c.text.program) answer
+
+  -- ---- displayed values
+  displayed_not_named : (digits : ℕ) (units : List DisplayUnit) (p : ProgramTree) (t : TypeTree) (o : OutcomeTree) → IsDisplayedEnd digits units p t o text status → Named → ⊥
+  displayed_not_named digits units p t (value_outcome v) (inl (fits, reply)) = not_named Done reply.1 refl
+  displayed_not_named digits units p t (value_outcome v) (inr (unfit, reply)) = not_named PowerRange reply.1 refl
+  displayed_not_named digits units p t (trap_outcome why) reply = not_named Trap reply.1 refl
+  displayed_not_named digits units p t budget_outcome reply = not_named BudgetEnd reply.1 refl
+
+  display_run_not_named : (digits : ℕ) (units : List DisplayUnit) (budget : ℕ) (p : ProgramTree) (call : CallTree) → DisplayedRun digits units budget p call text status → Named → ⊥
+  unfolding DisplayedRun
+  display_run_not_named digits units budget p call (o, meant, end) = displayed_not_named digits units p call.type o end
+
+  by_units_not_named : (digits : ℕ) (asked : AskedCall) (c : CheckedTree) (r : Result (List DisplayUnit) UnitsStop) → ByUnits digits asked c r text status → Named → ⊥
+  by_units_not_named digits asked c (Ok units) answer =
+      of_call_not_named (DisplayedRun digits units asked.budget) asked c (display_run_not_named digits units asked.budget c.text.program) answer
+  by_units_not_named digits asked c (Err units_stop.NoUnit) reply = not_named Input reply.1 refl
+  by_units_not_named digits asked c (Err units_stop.PowerRange) reply = not_named Input reply.1 refl
+  by_units_not_named digits asked c (Err units_stop.NoMemory) reply = absurd reply
+
+  pub show_not_named : (digits : ℕ) (word : List ℕ) (asked : AskedCall) (c : CheckedTree) → IsShowAnswer digits word asked c text status → Named → ⊥
+  unfolding IsShowAnswer
+  show_not_named digits word asked c (parts, stated, answer) =
+      by_units_not_named digits asked c (display_units (given c.text.program c.text.abbreviations) parts) answer
 
   -- ---- signatures
   matched_not_named : (name : List ℕ) (r : Result (Unit {0}) SigStop) → IsConformReply name r text status → Named → ⊥

@@ -1,13 +1,13 @@
 -- What is planned, by the steps of the answer.
-use Rattle.std.proofs.Common.{◌≡◌, ℕ, ◌<◌, ◌≤◌, List, [], length, None, Some, Result, Ok, Err, IfOk, IsTrue, codes, sym, ◌∙◌, refl, inl, inr, arith}
-use Rattle.std.specs.Prelude.{IsErrOf}
+use Rattle.std.proofs.Common.{◌≡◌, ℕ, ◌<◌, ◌≤◌, List, [], length, None, Some, Result, Ok, Err, IfOk, Bool, true, false, IsTrue, codes, sym, subst, ◌∙◌, refl, inl, inr, arith}
+use Rattle.std.specs.Prelude.{IsErrOf, MatchBool, ◌↔◌}
 use Rattle.std.specs.declared.option.Option.{Option}
 use Rattle.um_wire.specs.Faults.{Rose}
 use Rattle.um_wire.specs.Bytes.{Tells, TellsMoreThan}
 use Rattle.um_wire.specs.declared.read.ReadStop.{ReadStop}
 use Rattle.um_wire.specs.declared.read.ReadStop.TheVariants.{TooLong as TooLongToRead, Failed as ReadFailed, NoMemory as OutOfMemory}
 use Rattle.um_orders.specs.declared.order.Order.{Order}
-use Rattle.um_orders.specs.declared.order.Order.TheVariants.{Big}
+use Rattle.um_orders.specs.declared.order.Order.TheVariants.{Types, Annot, Code, Fmt, Tidy, Run, Steps, Eval, Trace, Show, Conform, Rescale, Twin, Big, Prove, Image, Exec, Calls}
 use Rattle.um_orders.specs.declared.order.BytesOrder.{BytesOrder}
 use Rattle.um_orders.specs.declared.order.BytesOrder.TheVariants as bytes_order
 use Rattle.um_orders.specs.declared.order.TextOrder.{TextOrder}
@@ -20,6 +20,7 @@ use Rattle.um_reports.specs.Steps.{IsReply, line}
 use Rattle.um_reports.proofs.ReportStatuses.{is_answered}
 use Rattle.um_front.proofs.TooLongTexts.{too_long_unread, too_long_unshaped, too_long_unchecked}
 use Rattle.um_answers.specs.TypesAnswer.{TypesAnswer}
+use Rattle.um_answers.specs.AnnotAnswer.{AnnotAnswer}
 use Rattle.um_answers.specs.CodeAnswer.{CodeAnswer}
 use Rattle.um_answers.specs.FmtAnswer.{FmtAnswer}
 use Rattle.um_answers.specs.TidyAnswer.{TidyAnswer}
@@ -33,7 +34,9 @@ use Rattle.um_call_answers.specs.BigAnswer.{BigAnswer}
 use Rattle.um_call_answers.specs.ExecAnswer.{BytesAnswer, ExecAnswer}
 use Rattle.um_call_answers.specs.CallsAnswer.{SourceAnswer, CallsAnswer}
 use Rattle.um_trace_answers.specs.TraceAnswer.{TraceAnswer}
-use Rattle.um_tool.specs.Asked.{called}
+use Rattle.um_display_answers.specs.ShowAnswer.{ShowAnswer}
+use Rattle.um_display.specs.UnitWords.{PartSyntax, IsUnitWord}
+use Rattle.um_tool.specs.Asked.{called, shown_units, StatesUnits}
 use Rattle.um_tool.specs.Answer.{Answer, ByOrder}
 use Rattle.um_tool.specs.Served.{TakesSome, IsPlanned, Reads}
 use Rattle.um_tool.proofs.Statuses.{Answer-status}
@@ -54,7 +57,46 @@ usage_planned words left before now text status none reply =
     let told = some_told left in
     inl (told.0, told.1, rw (← none) reply)
 
+-- ---- whether the word that shall state units does
+
+decided : (b : Bool) {P : Type 0} → IsTrue b ↔ P → MatchBool b P (P → ⊥)
+decided true h = h.0 refl
+decided false h = λ p. cc (h.1 p)
+
+pub states_by_word : {E : Type 0} (order : Order) (digits budget : ℕ) (words : List (List ℕ)) (word : List ℕ) → order ≡ Show digits budget → shown_units words ≡ word → (result : Result Bool E) → IfOk result (λ b. IsTrue b ↔ ((parts : List PartSyntax) × IsUnitWord word parts)) → IfOk result (λ b. MatchBool b (StatesUnits order words) (StatesUnits order words → ⊥))
+states_by_word order digits budget words word is same (Ok b) stated =
+    let here = subst (λ (w : List ℕ). IsTrue b ↔ ((parts : List PartSyntax) × IsUnitWord w parts)) (sym same) stated in
+    subst (λ (o : Order). MatchBool b (StatesUnits o words) (StatesUnits o words → ⊥)) (sym is) (decided b here)
+states_by_word order digits budget words word is same (Err e) stated = stated
+
 -- ---- an order, by what it takes from the source
+
+-- a word that shall state units and doesn't
+not_stated : (order : Order) (words : List (List ℕ)) (bytes text : List ℕ) (status : Status) → (StatesUnits order words → ⊥) → IsReply text status (line (codes "error 1: usage")) Usage → ByOrder order words bytes text status
+not_stated (Show digits budget) words bytes text status none reply = inr (none, reply)
+not_stated Types words bytes text status none reply = absurd (none tt)
+not_stated Annot words bytes text status none reply = absurd (none tt)
+not_stated Code words bytes text status none reply = absurd (none tt)
+not_stated Fmt words bytes text status none reply = absurd (none tt)
+not_stated Tidy words bytes text status none reply = absurd (none tt)
+not_stated (Run budget) words bytes text status none reply = absurd (none tt)
+not_stated (Steps budget) words bytes text status none reply = absurd (none tt)
+not_stated (Eval budget) words bytes text status none reply = absurd (none tt)
+not_stated (Trace budget) words bytes text status none reply = absurd (none tt)
+not_stated Conform words bytes text status none reply = absurd (none tt)
+not_stated Rescale words bytes text status none reply = absurd (none tt)
+not_stated (Twin budget) words bytes text status none reply = absurd (none tt)
+not_stated (Big n) words bytes text status none reply = absurd (none tt)
+not_stated Prove words bytes text status none reply = absurd (none tt)
+not_stated Image words bytes text status none reply = absurd (none tt)
+not_stated (Exec budget) words bytes text status none reply = absurd (none tt)
+not_stated (Calls budget) words bytes text status none reply = absurd (none tt)
+
+pub unstated_planned : (words : List (List ℕ)) (left : Option (List ℕ)) (before now : ℕ) (order : Order) (text : List ℕ) (status : Status) → order_of words ≡ Some order → (StatesUnits order words → ⊥) → IsReply text status (line (codes "error 1: usage")) Usage → IsPlanned words left before now text status
+unfolding Answer
+unstated_planned words left before now order text status ordered none reply =
+    let told = some_told left in
+    inl (told.0, told.1, rw ordered (not_stated order words told.0 text status none reply))
 
 pub order_planned : (words : List (List ℕ)) (left : Option (List ℕ)) (before now : ℕ) (order : Order) (bytes text : List ℕ) (status : Status) → order_of words ≡ Some order → Tells left bytes → ByOrder order words bytes text status → IsPlanned words left before now text status
 unfolding Answer
@@ -69,24 +111,27 @@ generated_planned words left before now n text status ordered answer =
 -- ---- a text
 
 -- a text that is too long is refused, whatever is asked of it
-too_long : (order : TextOrder) (words : List (List ℕ)) (bytes text : List ℕ) (status : Status) → 1048576 < length bytes → IsReply text status (line (codes "error 2: text too long")) TooLong → ByOrder (order_about order) words bytes text status
-unfolding TypesAnswer CodeAnswer FmtAnswer TidyAnswer CallAnswer TraceAnswer ConformAnswer RescaleAnswer TwinAnswer ProveAnswer ImageAnswer
-too_long text_order.Types words bytes text status long reply = inr (too_long_unchecked bytes text status long reply)
-too_long text_order.Code words bytes text status long reply = inr (too_long_unchecked bytes text status long reply)
-too_long text_order.Fmt words bytes text status long reply = inr (too_long_unread bytes text status long reply)
-too_long text_order.Tidy words bytes text status long reply = inr (too_long_unread bytes text status long reply)
-too_long (text_order.Run budget) words bytes text status long reply = inr (too_long_unchecked bytes text status long reply)
-too_long (text_order.Steps budget) words bytes text status long reply = inr (too_long_unchecked bytes text status long reply)
-too_long (text_order.Eval budget) words bytes text status long reply = inr (too_long_unchecked bytes text status long reply)
-too_long (text_order.Trace budget) words bytes text status long reply = inr (too_long_unchecked bytes text status long reply)
-too_long text_order.Conform words bytes text status long reply = inr (too_long_unchecked bytes text status long reply)
-too_long text_order.Rescale words bytes text status long reply = inr (too_long_unchecked bytes text status long reply)
-too_long (text_order.Twin budget) words bytes text status long reply = inr (too_long_unchecked bytes text status long reply)
-too_long text_order.Prove words bytes text status long reply = inr (too_long_unshaped bytes text status long reply)
-too_long text_order.Image words bytes text status long reply = inr (too_long_unchecked bytes text status long reply)
+too_long : (order : TextOrder) (words : List (List ℕ)) → StatesUnits (order_about order) words → (bytes text : List ℕ) (status : Status) → 1048576 < length bytes → IsReply text status (line (codes "error 2: text too long")) TooLong → ByOrder (order_about order) words bytes text status
+unfolding TypesAnswer AnnotAnswer CodeAnswer FmtAnswer TidyAnswer CallAnswer TraceAnswer ShowAnswer ConformAnswer RescaleAnswer TwinAnswer ProveAnswer ImageAnswer
+too_long text_order.Types words units bytes text status long reply = inr (too_long_unchecked bytes text status long reply)
+too_long text_order.Annot words units bytes text status long reply = inr (too_long_unchecked bytes text status long reply)
+too_long text_order.Code words units bytes text status long reply = inr (too_long_unchecked bytes text status long reply)
+too_long text_order.Fmt words units bytes text status long reply = inr (too_long_unread bytes text status long reply)
+too_long text_order.Tidy words units bytes text status long reply = inr (too_long_unread bytes text status long reply)
+too_long (text_order.Run budget) words units bytes text status long reply = inr (too_long_unchecked bytes text status long reply)
+too_long (text_order.Steps budget) words units bytes text status long reply = inr (too_long_unchecked bytes text status long reply)
+too_long (text_order.Eval budget) words units bytes text status long reply = inr (too_long_unchecked bytes text status long reply)
+too_long (text_order.Trace budget) words units bytes text status long reply = inr (too_long_unchecked bytes text status long reply)
+too_long (text_order.Show digits budget) words units bytes text status long reply = inl (units, inr (too_long_unchecked bytes text status long reply))
+too_long text_order.Conform words units bytes text status long reply = inr (too_long_unchecked bytes text status long reply)
+too_long text_order.Rescale words units bytes text status long reply = inr (too_long_unchecked bytes text status long reply)
+too_long (text_order.Twin budget) words units bytes text status long reply = inr (too_long_unchecked bytes text status long reply)
+too_long text_order.Prove words units bytes text status long reply = inr (too_long_unshaped bytes text status long reply)
+too_long text_order.Image words units bytes text status long reply = inr (too_long_unchecked bytes text status long reply)
 
 text_takes : (order : TextOrder) → TakesSome (intake_of (order_about order))
 text_takes text_order.Types = tt
+text_takes text_order.Annot = tt
 text_takes text_order.Code = tt
 text_takes text_order.Fmt = tt
 text_takes text_order.Tidy = tt
@@ -94,6 +139,7 @@ text_takes (text_order.Run budget) = tt
 text_takes (text_order.Steps budget) = tt
 text_takes (text_order.Eval budget) = tt
 text_takes (text_order.Trace budget) = tt
+text_takes (text_order.Show digits budget) = tt
 text_takes text_order.Conform = tt
 text_takes text_order.Rescale = tt
 text_takes (text_order.Twin budget) = tt
@@ -101,16 +147,16 @@ text_takes text_order.Prove = tt
 text_takes text_order.Image = tt
 
 -- words that ask something of a text read
-pub text_reads : (words : List (List ℕ)) (order : TextOrder) → order_of words ≡ Some (order_about order) → Reads words
-text_reads words order ordered = record { order = order_about order; ordered = ordered; some = text_takes order }
+pub text_reads : (words : List (List ℕ)) (order : TextOrder) → StatesUnits (order_about order) words → order_of words ≡ Some (order_about order) → Reads words
+text_reads words order units ordered = record { order = order_about order; ordered = ordered; some = text_takes order; units = units }
 
-pub unread_planned : {T : Type 0} (result : Result T ReadStop) (stop : ReadStop) (words : List (List ℕ)) (left : Option (List ℕ)) (before now : ℕ) (order : TextOrder) (text : List ℕ) (status : Status) → order_of words ≡ Some (order_about order) → result ≡ Err stop
+pub unread_planned : {T : Type 0} (result : Result T ReadStop) (stop : ReadStop) (words : List (List ℕ)) (left : Option (List ℕ)) (before now : ℕ) (order : TextOrder) (text : List ℕ) (status : Status) → StatesUnits (order_about order) words → order_of words ≡ Some (order_about order) → result ≡ Err stop
     → (IsErrOf result TooLongToRead → TellsMoreThan 1048576 left) → (IsErrOf result ReadFailed → Rose before now) → IsReadReply stop text status → IsPlanned words left before now text status
-unread_planned result TooLongToRead words left before now order text status ordered is long rose reply =
+unread_planned result TooLongToRead words left before now order text status units ordered is long rose reply =
     let more = long is in
-    order_planned words left before now (order_about order) more.bytes text status ordered more.told (too_long order words more.bytes text status more.more reply)
-unread_planned result ReadFailed words left before now order text status ordered is long rose reply = inr (reply, text_reads words order ordered, rose is)
-unread_planned result OutOfMemory words left before now order text status ordered is long rose reply = absurd reply
+    order_planned words left before now (order_about order) more.bytes text status ordered more.told (too_long order words units more.bytes text status more.more reply)
+unread_planned result ReadFailed words left before now order text status units ordered is long rose reply = inr (reply, text_reads words order units ordered, rose is)
+unread_planned result OutOfMemory words left before now order text status units ordered is long rose reply = absurd reply
 
 -- ---- bytes as they are
 
@@ -133,8 +179,12 @@ bytes_take : (order : BytesOrder) → TakesSome (intake_of (order_about_bytes or
 bytes_take (bytes_order.Exec budget) = tt
 bytes_take (bytes_order.Calls budget) = tt
 
+bytes_state_none : (order : BytesOrder) (words : List (List ℕ)) → StatesUnits (order_about_bytes order) words
+bytes_state_none (bytes_order.Exec budget) words = tt
+bytes_state_none (bytes_order.Calls budget) words = tt
+
 pub bytes_read : (words : List (List ℕ)) (order : BytesOrder) → order_of words ≡ Some (order_about_bytes order) → Reads words
-bytes_read words order ordered = record { order = order_about_bytes order; ordered = ordered; some = bytes_take order }
+bytes_read words order ordered = record { order = order_about_bytes order; ordered = ordered; some = bytes_take order; units = bytes_state_none order words }
 
 module _ (words : List (List ℕ)) (left : Option (List ℕ)) (before now : ℕ) (order : BytesOrder) (ordered : order_of words ≡ Some (order_about_bytes order)) where
   pub bytes_unread : {T : Type 0} (result : Result T ReadStop) (stop : ReadStop) (text : List ℕ) (status : Status) → result ≡ Err stop → (IsErrOf result TooLongToRead → TellsMoreThan 16777216 left) → (IsErrOf result ReadFailed → Rose before now)

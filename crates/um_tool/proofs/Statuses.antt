@@ -1,13 +1,14 @@
 -- Which statuses an answer may have: none of the faults'.
-use Rattle.std.proofs.Common.{ℕ, List, IsTrue, None, Some, MatchOption, codes, refl}
+use Rattle.std.proofs.Common.{ℕ, List, IsTrue, None, Some, MatchOption, codes, refl, inl, inr}
 use Rattle.std.specs.declared.option.Option.{Option}
 use Rattle.um_orders.specs.declared.order.Order.{Order}
-use Rattle.um_orders.specs.declared.order.Order.TheVariants.{Types, Code, Fmt, Tidy, Run, Steps, Eval, Trace, Conform, Rescale, Twin, Big, Prove, Image, Exec, Calls}
+use Rattle.um_orders.specs.declared.order.Order.TheVariants.{Types, Annot, Code, Fmt, Tidy, Run, Steps, Eval, Trace, Show, Conform, Rescale, Twin, Big, Prove, Image, Exec, Calls}
 use Rattle.um_orders.specs.Orders.{order_of}
 use Rattle.um_reports.specs.declared.status.Status.{Status}
 use Rattle.um_reports.specs.declared.status.Status.TheVariants.{Usage}
 use Rattle.um_reports.specs.Steps.{IsReply, line}
 use Rattle.um_reports.proofs.ReportStatuses.{is_answered}
+use Rattle.um_answers.proofs.AnnotAnswers.{AnnotAnswer-status}
 use Rattle.um_answers.proofs.ConformAnswers.{ConformAnswer-status}
 use Rattle.um_answers.proofs.ImageAnswers.{ImageAnswer-status}
 use Rattle.um_answers.proofs.RescaleAnswers.{RescaleAnswer-status}
@@ -18,11 +19,14 @@ use Rattle.um_call_answers.proofs.CallsAnswers.{CallsAnswer-status}
 use Rattle.um_call_answers.proofs.ExecAnswers.{ExecAnswer-status}
 use Rattle.um_call_answers.proofs.TwinAnswers.{TwinAnswer-status}
 use Rattle.um_trace_answers.proofs.TraceAnswers.{TraceAnswer-status}
+use Rattle.um_display_answers.proofs.ShowStatuses.{ShowAnswer-status}
 use Rattle.um_tool.specs.Asked.{called, held_name, signature_text, rescale_sizes, twin_sizes, called_twice}
+use Rattle.um_tool.specs.Asked.{shown_units, called_shown}
 use Rattle.um_tool.specs.Answer.{Answer, ByOrder}
 
 by_order_status : (order : Order) (words : List (List ℕ)) (bytes text : List ℕ) (status : Status) → ByOrder order words bytes text status → IsTrue (is_answered status)
 by_order_status Types words bytes text status answer = TypesAnswer-status bytes text status answer
+by_order_status Annot words bytes text status answer = AnnotAnswer-status bytes text status answer
 by_order_status Code words bytes text status answer = CodeAnswer-status bytes text status answer
 by_order_status Fmt words bytes text status answer = FmtAnswer-status bytes text status answer
 by_order_status Tidy words bytes text status answer = TidyAnswer-status bytes text status answer
@@ -30,6 +34,8 @@ by_order_status (Run budget) words bytes text status answer = CallAnswer-status 
 by_order_status (Steps budget) words bytes text status answer = CallAnswer-status way.Counted (called budget words) bytes text status answer
 by_order_status (Eval budget) words bytes text status answer = CallAnswer-status way.Tree (called budget words) bytes text status answer
 by_order_status (Trace budget) words bytes text status answer = TraceAnswer-status (called budget words) bytes text status answer
+by_order_status (Show digits budget) words bytes text status (inl (stated, answer)) = ShowAnswer-status digits text status (shown_units words) (called_shown budget words) bytes answer
+by_order_status (Show digits budget) words bytes text status (inr (none, reply)) = rw reply.1 refl
 by_order_status Conform words bytes text status answer = ConformAnswer-status (held_name words) (signature_text words) bytes text status answer
 by_order_status Rescale words bytes text status answer = RescaleAnswer-status (rescale_sizes words) bytes text status answer
 by_order_status (Twin budget) words bytes text status answer = TwinAnswer-status text status (twin_sizes words) (called_twice budget words) bytes answer

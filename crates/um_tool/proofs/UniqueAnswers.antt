@@ -1,14 +1,15 @@
 -- The answer to words and bytes is one.
-use Rattle.std.proofs.Common.{◌≡◌, ℕ, List, Some, None, MatchOption, codes, refl, sym, ◌∙◌, ap}
+use Rattle.std.proofs.Common.{◌≡◌, ℕ, List, Some, None, MatchOption, codes, refl, sym, ◌∙◌, ap, inl, inr}
 use Rattle.std.specs.declared.option.Option.{Option}
 use Rattle.um_parse.specs.Laws.{AnswersAreUnique as ParsesAreUnique}
 use Rattle.um_orders.specs.declared.order.Order.{Order}
-use Rattle.um_orders.specs.declared.order.Order.TheVariants.{Types, Code, Fmt, Tidy, Run, Steps, Eval, Trace, Conform, Rescale, Twin, Big, Prove, Image, Exec, Calls}
+use Rattle.um_orders.specs.declared.order.Order.TheVariants.{Types, Annot, Code, Fmt, Tidy, Run, Steps, Eval, Trace, Show, Conform, Rescale, Twin, Big, Prove, Image, Exec, Calls}
 use Rattle.um_orders.specs.Orders.{order_of}
 use Rattle.um_reports.specs.declared.status.Status.{Status}
 use Rattle.um_reports.specs.declared.status.Status.TheVariants.{Usage}
 use Rattle.um_reports.specs.Steps.{line, IsReply}
 use Rattle.um_sig.specs.Laws.{ReadingsAreUnique}
+use Rattle.um_answers.proofs.AnnotAnswers.{annot_one}
 use Rattle.um_answers.proofs.ConformAnswers.{conform_one}
 use Rattle.um_answers.proofs.ImageAnswers.{image_one}
 use Rattle.um_answers.proofs.RescaleAnswers.{rescale_one}
@@ -20,7 +21,9 @@ use Rattle.um_call_answers.proofs.CallsAnswers.{calls_one}
 use Rattle.um_call_answers.proofs.UniqueReplies.{call_one}
 use Rattle.um_call_answers.proofs.TwinAnswers.{twin_one}
 use Rattle.um_trace_answers.specs.Laws.{TracesAreOne}
+use Rattle.um_display_answers.proofs.ShowOnce.{ShowAnswer-once}
 use Rattle.um_tool.specs.Asked.{called, held_name, signature_text, rescale_sizes, twin_sizes, called_twice}
+use Rattle.um_tool.specs.Asked.{shown_units, called_shown}
 use Rattle.um_tool.specs.Answer.{Answer, ByOrder}
 use Rattle.um_tool.specs.Laws.{AnswersAreUnique}
 
@@ -36,6 +39,7 @@ one_unless_proof order other = tt
 module _ (one : ParsesAreUnique) (one_reading : ReadingsAreUnique) (one_exec : ExecAnswersAreUnique) (one_trace : TracesAreOne) (text other : List ℕ) (status another : Status) where
   by_order_one : (order : Order) (words : List (List ℕ)) (bytes : List ℕ) → HasOneAnswer order → ByOrder order words bytes text status → ByOrder order words bytes other another → (text ≡ other) × (status ≡ another)
   by_order_one Types words bytes only a b = types_one bytes text status other another one a b
+  by_order_one Annot words bytes only a b = annot_one bytes text status other another one a b
   by_order_one Code words bytes only a b = code_one bytes text status other another one a b
   by_order_one Fmt words bytes only a b = fmt_one bytes text status other another one a b
   by_order_one Tidy words bytes only a b = tidy_one bytes text status other another one a b
@@ -43,6 +47,10 @@ module _ (one : ParsesAreUnique) (one_reading : ReadingsAreUnique) (one_exec : E
   by_order_one (Steps budget) words bytes only a b = call_one text other status another one way.Counted (called budget words) bytes a b
   by_order_one (Eval budget) words bytes only a b = call_one text other status another one way.Tree (called budget words) bytes a b
   by_order_one (Trace budget) words bytes only a b = one_trace (called budget words) bytes text other status another a b
+  by_order_one (Show digits budget) words bytes only (inl (stated, a)) (inl (too, b)) = ShowAnswer-once digits text other status another (shown_units words) (called_shown budget words) bytes one a b
+  by_order_one (Show digits budget) words bytes only (inl (stated, a)) (inr (none, b)) = absurd (none stated)
+  by_order_one (Show digits budget) words bytes only (inr (none, a)) (inl (stated, b)) = absurd (none stated)
+  by_order_one (Show digits budget) words bytes only (inr (none, a)) (inr (too, b)) = (a.0 ∙ sym b.0, a.1 ∙ sym b.1)
   by_order_one Conform words bytes only a b = conform_one text other status another one one_reading (held_name words) (signature_text words) bytes a b
   by_order_one Rescale words bytes only a b = rescale_one text other status another one (rescale_sizes words) bytes a b
   by_order_one (Twin budget) words bytes only a b = twin_one text other status another one (twin_sizes words) (called_twice budget words) bytes a b

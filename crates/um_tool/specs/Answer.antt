@@ -2,13 +2,15 @@
 -- Source: this project's own.
 use Rattle.std.specs.Prelude.{ℕ, List, codes, MatchOption}
 use Rattle.um_orders.specs.declared.order.Order.{Order}
-use Rattle.um_orders.specs.declared.order.Order.TheVariants.{Types, Code, Fmt, Tidy, Run, Steps, Eval, Trace, Conform}
-use Rattle.um_orders.specs.declared.order.Order.TheVariants.{Rescale, Twin, Big, Prove, Image, Exec, Calls}
+use Rattle.um_orders.specs.declared.order.Order.TheVariants.{Types, Annot, Code, Fmt, Tidy, Run, Steps, Eval, Trace}
+use Rattle.um_orders.specs.declared.order.Order.TheVariants.{Show, Conform, Rescale, Twin}
+use Rattle.um_orders.specs.declared.order.Order.TheVariants.{Big, Prove, Image, Exec, Calls}
 use Rattle.um_orders.specs.Orders.{order_of}
 use Rattle.um_reports.specs.declared.status.Status.{Status}
 use Rattle.um_reports.specs.declared.status.Status.TheVariants.{Usage}
-use Rattle.um_reports.specs.Steps.{line, IsReply}
+use Rattle.um_reports.specs.Steps.{line, IsReply, Cases}
 use Rattle.um_answers.specs.TypesAnswer.{TypesAnswer}
+use Rattle.um_answers.specs.AnnotAnswer.{AnnotAnswer}
 use Rattle.um_answers.specs.CodeAnswer.{CodeAnswer}
 use Rattle.um_answers.specs.FmtAnswer.{FmtAnswer}
 use Rattle.um_answers.specs.TidyAnswer.{TidyAnswer}
@@ -23,11 +25,17 @@ use Rattle.um_call_answers.specs.BigAnswer.{BigAnswer}
 use Rattle.um_call_answers.specs.ExecAnswer.{ExecAnswer}
 use Rattle.um_call_answers.specs.CallsAnswer.{CallsAnswer}
 use Rattle.um_trace_answers.specs.TraceAnswer.{TraceAnswer}
+use Rattle.um_display_answers.specs.ShowAnswer.{ShowAnswer}
 use Rattle.um_tool.specs.Asked.{called, held_name, signature_text, rescale_sizes, twin_sizes, called_twice}
+use Rattle.um_tool.specs.Asked.{shown_units, called_shown, StatesUnits}
+
+abbrev pub IsUsageReply : List ℕ → Status → Type 0
+IsUsageReply text status = IsReply text status (line (codes "error 1: usage")) Usage
 
 -- what the order asks of the bytes; `big` takes none
 abbrev pub ByOrder : Order → List (List ℕ) → List ℕ → List ℕ → Status → Type 0
 ByOrder Types words bytes text status = TypesAnswer bytes text status
+ByOrder Annot words bytes text status = AnnotAnswer bytes text status
 ByOrder Code words bytes text status = CodeAnswer bytes text status
 ByOrder Fmt words bytes text status = FmtAnswer bytes text status
 ByOrder Tidy words bytes text status = TidyAnswer bytes text status
@@ -35,6 +43,9 @@ ByOrder (Run budget) words bytes text status = CallAnswer way.Code (called budge
 ByOrder (Steps budget) words bytes text status = CallAnswer way.Counted (called budget words) bytes text status
 ByOrder (Eval budget) words bytes text status = CallAnswer way.Tree (called budget words) bytes text status
 ByOrder (Trace budget) words bytes text status = TraceAnswer (called budget words) bytes text status
+ByOrder (Show digits budget) words bytes text status =
+    Cases (StatesUnits (Show digits budget) words)
+    (ShowAnswer digits (shown_units words) (called_shown budget words) bytes text status) (IsUsageReply text status)
 ByOrder Conform words bytes text status = ConformAnswer (held_name words) (signature_text words) bytes text status
 ByOrder Rescale words bytes text status = RescaleAnswer (rescale_sizes words) bytes text status
 ByOrder (Twin budget) words bytes text status =
@@ -47,6 +58,5 @@ ByOrder (Calls budget) words bytes text status = CallsAnswer budget bytes text s
 
 -- the words name an order
 unfoldable pub Answer : List (List ℕ) → List ℕ → List ℕ → Status → Type 0
-Answer words bytes text status = MatchOption (order_of words)
-    (IsReply text status (line (codes "error 1: usage")) Usage)
-    (λ order. ByOrder order words bytes text status)
+Answer words bytes text status =
+    MatchOption (order_of words) (IsUsageReply text status) (λ order. ByOrder order words bytes text status)

@@ -85,8 +85,8 @@ EndedCallsAreMeant =
 abbrev pub run_words : List ℕ → List ℕ → List (List ℕ)
 run_words budget bytes = codes "run" ∷ budget ∷ words_in bytes
 
--- The text is what `run` answers with the words of the line on the program. An empty line has an empty line, and one that
--- isn't UTF-8 the line for words of no command.
+-- The text is what `run` answers with the words of the line on the program. An empty line has an empty line, and one
+-- that isn't UTF-8 the line for words of no command.
 abbrev pub IsRunOf : List ℕ → List ℕ → List ℕ → List ℕ → Type 0
 IsRunOf budget program bytes text = Cases (bytes ≡ []) (text ≡ line [])
     (Cases (IsUtf8 bytes) ((status : Status) × Answer (run_words budget bytes) program text status)

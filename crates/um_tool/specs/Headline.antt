@@ -32,7 +32,7 @@ use Rattle.um_answers.specs.TypesAnswer.{scheme_lines}
 use Rattle.um_call_answers.specs.declared.way.Way.{Way}
 use Rattle.um_call_answers.specs.AskedCall.{AskedCall}
 use Rattle.um_call_answers.specs.TwinAnswer.{misfit_among}
-use Rattle.um_tool.specs.Asked.{called, twin_sizes, called_twice}
+use Rattle.um_tool.specs.Asked.{called, twin_sizes, called_twice, StatesUnits}
 use Rattle.um_tool.specs.Answer.{Answer}
 use Rattle.um_tool.specs.Passing.{IsCheckedWith}
 use Rattle.um_tool.specs.Laws.{TypesAnswers}
@@ -102,11 +102,12 @@ names_untyped Units = true
 names_untyped NotGeneral = true
 names_untyped status = false
 
--- Each such order is answered the first function without a typing exactly if there is one.
+-- Each such order is answered the first function without a typing exactly if there is one. A word that shall state
+-- units has to.
 abbrev pub EachOrderNamesFirstUntyped : Type 0
 EachOrderNamesFirstUntyped =
     (order : Order) (words : List (List ℕ)) (bytes : List ℕ) (s : ShapedTree) →
-    NeedsSchemes order → order_of words ≡ Some order → SpellsProgram bytes s →
+    NeedsSchemes order → StatesUnits order words → order_of words ≡ Some order → SpellsProgram bytes s →
     (text : List ℕ) (status : Status) → Answer words bytes text status →
     (EachIsTyped s.program × (IsTrue (names_untyped status) → ⊥))
     ⊎ ((EachIsTyped s.program → ⊥) × NamesFirstUntyped bytes s.program text status)

@@ -9,6 +9,7 @@ use Rattle.um_orders.specs.declared.order.Intake.{Intake}
 use Rattle.um_orders.specs.declared.order.Intake.TheVariants.{Generated}
 use Rattle.um_reports.specs.declared.status.Status.{Status}
 use Rattle.um_reports.specs.declared.status.Status.TheVariants.{ReadFault, WriteFault, NoMemory}
+use Rattle.um_tool.specs.Asked.{StatesUnits}
 use Rattle.um_tool.specs.Answer.{Answer}
 use Rattle.um_orders.specs.Orders.{order_of, intake_of}
 use Rattle.um_tool.specs.Passing.{GoesThrough}
@@ -19,11 +20,12 @@ abbrev pub TakesSome : Intake → Type 0
 TakesSome (Generated n) = ⊥
 TakesSome intake = Unit {0}
 
--- the words name an order that takes something from the source
+-- the words name an order that takes something from the source, and the word that shall state units does
 pub record Reads (words : List (List ℕ)) : Type 0 where
   pub order : Order
   pub ordered : order_of words ≡ Some order
   pub some : TakesSome (intake_of order)
+  pub units : StatesUnits order words
 
 -- the text and the status that a run is about to give: the answer to the bytes left,
 -- or the line on a failed read, only if the words ask for a read and the source's count rose

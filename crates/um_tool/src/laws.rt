@@ -4,7 +4,7 @@ ghost use Rattle.um_tool.specs.Laws.{NotGeneralNamesTheFirstUntyped, AnswersAreU
 ghost use Rattle.um_tool.specs.CallLaws.{PrintedCodeIsTheProgramsCode, EndedCallsAreMeant, VerdictsSayWhatTypingsAre};
 ghost use Rattle.um_tool.specs.CallLaws.{CallsAreRuns};
 ghost use Rattle.um_tool.specs.ScaleLaws.{RescaledTextsAreRescaled, EndedTwinsAreRelated};
-ghost use Rattle.um_tool.specs.ImageLaws.{PrintedImagesAreVerified};
+ghost use Rattle.um_tool.specs.ImageLaws.{PrintedImagesAreVerified, PrintedImagesRunAsMeant};
 ghost use Rattle.um_tool.specs.Verdicts.{SignaturesHaveVerdicts};
 ghost use Rattle.um_tool.specs.CertificateLaws.{PrintedCertificatesAreValid, RefusedCertificatesPass, ProofsAreUnique};
 ghost use Rattle.um_tool.specs.Headline.{TypesAreSchemesOrFirstUntyped, EachOrderNamesFirstUntyped};
@@ -51,11 +51,15 @@ pub fn printed_code()
 {}
 
 /// What `image` printed with status 0 on some bytes are the bytes of a verified image of the program that they spell,
-/// with its code: each call of it ends as the program's meaning has it.
+/// with its code: each call of it ends as the program's meaning has it. `exec` reads them as that image, and answers
+/// the outcome of the meaning, if the words name a call of it.
 pub fn printed_images()
-    ensures { PrintedImagesAreVerified }
+    ensures verified { PrintedImagesAreVerified }
+    ensures runs { PrintedImagesRunAsMeant }
 {
     um_image::image_of_generated_code();
+    um_run::laws::image_calls();
+    um_call_answers::laws::answers_of_images();
 }
 
 /// What a call of a function was answered with the status of a value, of a trap or of the budget's end is the outcome

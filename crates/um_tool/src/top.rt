@@ -1,14 +1,16 @@
 // The top call.
-ghost use Rattle.std.specs.Prelude.{◌≡◌, ◌≢◌, ℕ, IfOk, List, Some};
+ghost use Rattle.std.specs.Prelude.{◌≡◌, ◌≢◌, ℕ, IfOk, List, MatchBool, Some};
 ghost use Rattle.um_wire.specs.Faults.{Rose};
 ghost use Rattle.um_orders.specs.Orders.{order_of as order_named, order_about, order_about_bytes};
+ghost use Rattle.um_tool.specs.Asked.{StatesUnits};
 ghost use Rattle.um_tool.specs.Served.{IsPlanned, IsUndisturbed, Reads, Serves};
 ghost use Rattle.um_tool.specs.Headline.{IsCalm, ServesHeadline};
 
 use crate::dispatch::{answer_bytes, answer_text};
-use std::alloc::Global;
+use std::alloc::{AllocError, Global};
 use um_call_answers::answer_big;
 use um_call_answers::laws::answers_of_images;
+use um_display::is_units;
 use um_front::{Answer, Reading};
 use um_orders::{BytesOrder, Intake, Order, TextOrder, Words, order_of};
 use um_reports::{Status, reply_line, reply_to_unread};
@@ -101,6 +103,53 @@ fn reply_to_order<S: Source>(alloc: Global, order: Order, words: &Words, source:
         → S.faults source.new ≡ S.faults source.old) }
     ensures unread { (Reads words.now → ⊥) → source.new ≡ source.old }
 {
+    if states_units(alloc, order, words)? {
+        reply_to_stated(alloc, order, words, source)
+    } else {
+        reply_line(alloc, "error 1: usage", Status::Usage)
+    }
+}
+
+/// Whether the word that shall state units does.
+fn states_units(alloc: Global, order: Order, words: &Words) -> Result<bool, AllocError>
+    requires { order_named words.now ≡ Some order }
+    ensures { IfOk result (λ stated. MatchBool stated (StatesUnits order words.now) (¬ StatesUnits order words.now)) }
+{
+    match order {
+        Order::Show {
+            digits: _,
+            budget: _,
+        } => is_units(alloc, words.word(2)),
+        Order::Types
+        | Order::Annot
+        | Order::Code
+        | Order::Fmt
+        | Order::Tidy
+        | Order::Run { budget: _ }
+        | Order::Steps { budget: _ }
+        | Order::Eval { budget: _ }
+        | Order::Trace { budget: _ }
+        | Order::Conform
+        | Order::Rescale
+        | Order::Twin { budget: _ }
+        | Order::Big(_)
+        | Order::Prove
+        | Order::Image
+        | Order::Exec { budget: _ }
+        | Order::Calls { budget: _ } => Ok(true),
+    }
+}
+
+/// What the run is about to write if the words name this order, and the word that shall state units does.
+fn reply_to_stated<S: Source>(alloc: Global, order: Order, words: &Words, source: &mut S) -> Answer
+    requires ordered { order_named words.now ≡ Some order }
+    requires units { StatesUnits order words.now }
+    ensures planned { IfOk result (λ reply. IsPlanned words.now (S.left source.old)
+        (S.faults source.old) (S.faults source.new) reply.text.items reply.status) }
+    ensures reads_told { IfOk result (λ reply. reply.status ≢ Status.ReadFault
+        → S.faults source.new ≡ S.faults source.old) }
+    ensures unread { (Reads words.now → ⊥) → source.new ≡ source.old }
+{
     match order.intake() {
         Intake::Generated { functions } => answer_big(alloc, functions),
         Intake::Text(order) => reply_to_text(alloc, order, words, source),
@@ -116,6 +165,7 @@ fn reply_to_text<S: Source>(
     source: &mut S,
 ) -> Answer
     requires ordered { order_named words.now ≡ Some (order_about order) }
+    requires units { StatesUnits (order_about order) words.now }
     ensures planned { IfOk result (λ reply. IsPlanned words.now (S.left source.old)
         (S.faults source.old) (S.faults source.new) reply.text.items reply.status) }
     ensures reads_told { IfOk result (λ reply. reply.status ≢ Status.ReadFault

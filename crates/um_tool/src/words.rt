@@ -9,7 +9,7 @@ use um_orders::Words;
 /// The call of at most so many calls whose name is the word of this number, counted from 0, with the words after it as
 /// the texts of its arguments. Takes no memory.
 pub(crate) fn called(words: &Words, budget: u64, name: usize) -> CallWords<'_>
-    requires early { name ≤ 3 }
+    requires early { name ≤ 4 }
     requires many { name + 1 ≤ length words.now }
     requires small { budget ≤ 10000000 }
     requires short { All (λ (word : List ℕ). length word ≤ 1048576) words.now }

@@ -2,7 +2,7 @@ use Rattle.std.proofs.Common.{[], Some, ap, subst, ◌∙◌, arith, ℕ, List, 
 use Rattle.std.proofs.lemmas.Option.{get_or_from_slice_get}
 use Rattle.um_tree.proofs.Moved.{All_at}
 use Rattle.um_sizes.specs.ScaleWords.{is_scales}
-use Rattle.um_orders.specs.declared.order.Order.TheVariants.{Run, Steps, Eval, Trace, Conform, Rescale, Twin}
+use Rattle.um_orders.specs.declared.order.Order.TheVariants.{Run, Steps, Eval, Trace, Show, Conform, Rescale, Twin}
 use Rattle.um_orders.specs.declared.order.TextOrder.{TextOrder}
 use Rattle.um_orders.specs.Orders.{order_about}
 use Rattle.um_orders.proofs.OrderWords.{short_words, words_of_order}
@@ -68,6 +68,38 @@ called-requires-in-Trace-clause-short c =
     let named = c.requires.ordered ∙ ap (λ (o : TextOrder). Some (order_about o)) c.in-Trace.is in
     short_words c.args.words.now (Trace c.in-Trace.budget) named
 
+pub word-requires : goal.word-requires
+word-requires c =
+    let named = c.requires.ordered ∙ ap (λ (o : TextOrder). Some (order_about o)) c.in-Show.is in
+    let many = (words_of_order c.args.words.now (Show c.in-Show.digits c.in-Show.budget) named).0 in
+    omega (arith, many)
+
+pub called-requires-in-Show-clause-many : goal.called-requires-in-Show-clause-many
+called-requires-in-Show-clause-many c =
+    let named = c.requires.ordered ∙ ap (λ (o : TextOrder). Some (order_about o)) c.in-Show.is in
+    (words_of_order c.args.words.now (Show c.in-Show.digits c.in-Show.budget) named).0
+
+pub called-requires-in-Show-clause-small : goal.called-requires-in-Show-clause-small
+called-requires-in-Show-clause-small c =
+    let named = c.requires.ordered ∙ ap (λ (o : TextOrder). Some (order_about o)) c.in-Show.is in
+    (words_of_order c.args.words.now (Show c.in-Show.digits c.in-Show.budget) named).2
+
+pub called-requires-in-Show-clause-short : goal.called-requires-in-Show-clause-short
+called-requires-in-Show-clause-short c =
+    let named = c.requires.ordered ∙ ap (λ (o : TextOrder). Some (order_about o)) c.in-Show.is in
+    short_words c.args.words.now (Show c.in-Show.digits c.in-Show.budget) named
+
+pub answer_show-requires-clause-few : goal.answer_show-requires-clause-few
+answer_show-requires-clause-few c =
+    let named = c.requires.ordered ∙ ap (λ (o : TextOrder). Some (order_about o)) c.in-Show.is in
+    (words_of_order c.args.words.now (Show c.in-Show.digits c.in-Show.budget) named).1
+
+pub answer_show-requires-clause-short : goal.answer_show-requires-clause-short
+answer_show-requires-clause-short c =
+    let named = c.requires.ordered ∙ ap (λ (o : TextOrder). Some (order_about o)) c.in-Show.is in
+    let short = short_words c.args.words.now (Show c.in-Show.digits c.in-Show.budget) named in
+    All_at (λ (word : List ℕ). length word ≤ 1048576) c.args.words.now 2 c.word.result.now c.word.ensures short
+
 pub called-requires-in-Twin-clause-many : goal.called-requires-in-Twin-clause-many
 called-requires-in-Twin-clause-many c =
     let named = c.requires.ordered ∙ ap (λ (o : TextOrder). Some (order_about o)) c.in-Twin.is in
@@ -83,14 +115,14 @@ called-requires-in-Twin-clause-short c =
     let named = c.requires.ordered ∙ ap (λ (o : TextOrder). Some (order_about o)) c.in-Twin.is in
     short_words c.args.words.now (Twin c.in-Twin.budget) named
 
-pub word-requires : goal.word-requires
-word-requires c =
+pub word-requires-in-Conform : goal.word-requires-in-Conform
+word-requires-in-Conform c =
     let named = c.requires.ordered ∙ ap (λ (o : TextOrder). Some (order_about o)) c.in-Conform.is in
     let many = words_of_order c.args.words.now Conform named in
     omega (arith, many)
 
-pub word-requires-in-Conform : goal.word-requires-in-Conform
-word-requires-in-Conform c =
+pub word-requires-in-Conform-2 : goal.word-requires-in-Conform-2
+word-requires-in-Conform-2 c =
     let named = c.requires.ordered ∙ ap (λ (o : TextOrder). Some (order_about o)) c.in-Conform.is in
     let many = words_of_order c.args.words.now Conform named in
     omega (arith, many)
@@ -99,7 +131,7 @@ pub answer_conform-requires : goal.answer_conform-requires
 answer_conform-requires c =
     let named = c.requires.ordered ∙ ap (λ (o : TextOrder). Some (order_about o)) c.in-Conform.is in
     let short = short_words c.args.words.now Conform named in
-    record { short = All_at (λ (word : List ℕ). length word ≤ 1048576) c.args.words.now 2 c.word-in-Conform.result.now c.word-in-Conform.ensures short }
+    record { short = All_at (λ (word : List ℕ). length word ≤ 1048576) c.args.words.now 2 c.word-in-Conform-2.result.now c.word-in-Conform-2.ensures short }
 
 pub word-requires-in-Rescale : goal.word-requires-in-Rescale
 word-requires-in-Rescale c =

@@ -1,28 +1,12 @@
-use Rattle.std.proofs.Common.{Some, sym, ap, ◌∙◌}
-use Rattle.um_orders.specs.declared.order.Order.TheVariants.{Big}
-use Rattle.um_orders.proofs.OrderWords.{order_of_generated, order_of_text, order_of_bytes, words_of_order}
-use Rattle.um_tool.proofs.Serving.{if_ok, generated_planned}
+use Rattle.std.proofs.Common.{◌≡◌, false, rules}
+use Rattle.um_tool.specs.Asked.{StatesUnits}
+use Rattle.um_tool.proofs.Serving.{if_ok, unstated_planned}
 use Rattle.um_tool.proofs.top.reply_to_order.Goals as goal
 
-pub answer_big-requires : goal.answer_big-requires
-answer_big-requires g c =
-    let n = c.in-Generated.functions in
-    let order = order_of_generated c.args.order n (sym c.intake.ensures ∙ c.in-Generated.is) in
-    let few = words_of_order c.args.words.now (Big n) (c.requires.ordered ∙ ap Some order) in
-    record { some = few.0; few = few.1 }
-
-pub returns-in-Generated-clause-planned : goal.returns-in-Generated-clause-planned
-returns-in-Generated-clause-planned g c =
-    let n = c.in-Generated.functions in
-    let order = order_of_generated c.args.order n (sym c.intake.ensures ∙ c.in-Generated.is) in
-    if_ok c.answer_big.result
-    (λ reply answer. generated_planned c.args.words.now (g.S.Source.left c.args.source.now) _ _ n reply.text.items reply.status (c.requires.ordered ∙ ap Some order) answer)
-    c.answer_big.ensures
-
-pub reply_to_text-requires : goal.reply_to_text-requires
-reply_to_text-requires g c =
-    record { ordered = c.requires.ordered ∙ ap Some (order_of_text c.args.order c.in-Text.order (sym c.intake.ensures ∙ c.in-Text.is)) }
-
-pub reply_to_bytes-requires : goal.reply_to_bytes-requires
-reply_to_bytes-requires g c =
-    record { ordered = c.requires.ordered ∙ ap Some (order_of_bytes c.args.order c.in-Bytes.order (sym c.intake.ensures ∙ c.in-Bytes.is)) }
+pub returns-else-branch-clause-planned : goal.returns-else-branch-clause-planned
+returns-else-branch-clause-planned g c =
+    let no : c.in_ok-states_units.field-0 ≡ false = search rules in
+    let none : StatesUnits c.args.order c.args.words.now → ⊥ = rw no at c.in_ok-states_units.ensures in
+    if_ok c.reply_line.result
+    (λ reply is. unstated_planned c.args.words.now (g.S.Source.left c.args.source.now) _ _ c.args.order reply.text.items reply.status c.requires.ordered none is)
+    c.reply_line.ensures

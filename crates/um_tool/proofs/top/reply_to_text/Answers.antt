@@ -14,7 +14,7 @@ returns-in_ok-into_text-in-Ok-clause-planned g c =
 pub returns-in-Err-clause-planned : goal.returns-in-Err-clause-planned
 returns-in-Err-clause-planned g c =
     if_ok c.reply_to_unread.result
-    (λ reply is. unread_planned (Err c.in-Err.stop) c.in-Err.stop c.args.words.now (g.S.Source.left c.args.source.now) (g.S.Source.faults c.args.source.now) (g.S.Source.faults c.read_into.new.source) c.args.order reply.text.items reply.status c.requires.ordered refl c.in-Err.ensures.too_long c.in-Err.ensures.failed is)
+    (λ reply is. unread_planned (Err c.in-Err.stop) c.in-Err.stop c.args.words.now (g.S.Source.left c.args.source.now) (g.S.Source.faults c.args.source.now) (g.S.Source.faults c.read_into.new.source) c.args.order reply.text.items reply.status c.requires.units c.requires.ordered refl c.in-Err.ensures.too_long c.in-Err.ensures.failed is)
     c.reply_to_unread.ensures
 
 pub returns-in-Err-clause-reads_told : goal.returns-in-Err-clause-reads_told

@@ -1,0 +1,3 @@
+pub mod ShowStatuses
+pub mod ShowOnce
+pub mod ShowDone
