@@ -1,6 +1,8 @@
 """What the tests share: the program, calls of `um`, and which commands the program has.
 
-The tests ask the program that UMC names, otherwise the proved program of the checkout. They never build one.
+The tests ask the program that UMC names, otherwise the proved program of the checkout. They never build one. A test
+that needs a command which the program lacks asks a script that hands this command to `reference/umc`, which has them
+all.
 """
 import json
 import os
@@ -9,7 +11,9 @@ import subprocess
 import sys
 from collections.abc import Callable, Iterator, Sequence
 from dataclasses import dataclass
+from functools import cache
 from pathlib import Path
+from tempfile import TemporaryDirectory
 from typing import Any
 
 import pytest
@@ -20,6 +24,10 @@ BUILT = HOME / "crates/umc/out/umc"
 sys.path.insert(0, str(HOME / "python"))
 
 PROGRAM = Path(os.environ.get("UMC") or BUILT).absolute()
+REFERENCE = HOME / "reference/umc"
+# The reference is slow: what takes large files is left out with a program that lacks the command.
+TOO_SLOW = {"calls"}
+FOLDER = TemporaryDirectory()
 
 
 def pytest_configure(config: pytest.Config) -> None:
@@ -39,16 +47,36 @@ def pytest_configure(config: pytest.Config) -> None:
 
 
 def lacks(command: str | None) -> bool:
-    """Whether the program has no such command."""
+    """Whether the program that the test asks has no such command."""
     from umc.program import Program
-    return command is not None and not Program(PROGRAM).has(command)
+    return command is not None and not Program(Path(os.environ["UMC"])).has(command)
+
+
+@cache
+def whole() -> Path:
+    """A script that asks the program, and the reference where the program lacks the command."""
+    from umc.program import Program
+    lacking = [command for command in Program(PROGRAM).lacking() if command not in TOO_SLOW]
+    path = Path(FOLDER.name) / "umc"
+    reference = f'exec "{sys.executable}" "{REFERENCE}" "$@"'
+    path.write_text(f'#!/bin/sh\ncase $1 in {"|".join(lacking)}) {reference};; esac\nexec "{PROGRAM}" "$@"\n')
+    path.chmod(0o755)
+    return path
+
+
+def need(command: str | None) -> None:
+    """Gives the rest of the test a program with this command, or skips it."""
+    if lacks(command):
+        if command in TOO_SLOW:
+            pytest.skip(f"this umc has no command '{command}'")
+        os.environ["UMC"] = str(whole())
 
 
 def pytest_runtest_setup(item: pytest.Item) -> None:
-    """Skips what the program can't do yet."""
+    """Gives each test its program."""
+    os.environ["UMC"] = str(PROGRAM)
     for mark in item.iter_markers("needs"):
-        if lacks(mark.args[0]):
-            pytest.skip(f"this umc has no command '{mark.args[0]}'")
+        need(mark.args[0])
 
 
 @dataclass(frozen=True)
@@ -98,7 +126,7 @@ def start() -> Iterator[Callable[..., subprocess.Popen[bytes]]]:
 def answer(words: Sequence[str], text: str | bytes) -> tuple[int, str]:
     """What the program itself answers."""
     data = text.encode() if isinstance(text, str) else text
-    done = subprocess.run([str(PROGRAM), *words], input=data, capture_output=True)
+    done = subprocess.run([os.environ["UMC"], *words], input=data, capture_output=True)
     return done.returncode, done.stdout.decode()
 
 

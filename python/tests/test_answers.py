@@ -1,7 +1,7 @@
 """Answers: standard output has what the program answers, and the status is its status."""
 import pytest
 
-from conftest import HOME, answer, lacks
+from conftest import HOME, answer, lacks, need
 
 CALLS = [
     ("examples/vehicle.um", "mean", ["[1<m>; 2<m>; 6<m>]"]),
@@ -37,8 +37,7 @@ def test_a_text_is_answered_as_by_the_program(um, command, name):
 @pytest.mark.parametrize("command", ["annot", "tidy"])
 @pytest.mark.parametrize("name", ["area", "beam", "refusals/names"])
 def test_a_text_is_answered_as_by_the_program_with_later_commands(um, command, name):
-    if lacks(command):
-        pytest.skip(f"this umc has no command '{command}'")
+    need(command)
     file = f"examples/{name}.um"
     status, output = answer([command], text(file))
     assert (um(command, file).status, um(command, file).out) == (status, output if status == 0 else "")

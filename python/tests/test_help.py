@@ -6,7 +6,7 @@ import sys
 
 import pytest
 
-from conftest import HOME, PROGRAM, UM, lacks
+from conftest import HOME, PROGRAM, UM, need
 
 from umc import manual
 from umc.commands import COMMANDS
@@ -65,8 +65,7 @@ def test_each_command_has_a_page_with_an_example(um, name):
 
 @pytest.mark.parametrize("command, example", EXAMPLES, ids=[example.line[:60] for _, example in EXAMPLES])
 def test_each_example_is_true(command, example, tmp_path):
-    if lacks(command.needs):
-        pytest.skip(f"this umc has no command '{command.needs}'")
+    need(command.needs)
     own = tmp_path / "python3"
     own.symlink_to(sys.executable)
     done = subprocess.run(["bash", "-c", example.line], cwd=HOME, capture_output=True, text=True,
@@ -105,7 +104,8 @@ def test_words_that_are_wrong_are_told(um, words, why):
     (["tidy", "examples/area.um"], "tidy"), (["tidy", "-w", "examples/area.um"], "tidy"),
     (["annot", "examples/area.um"], "annot"), (["trace", "examples/area.um", "area", "1", "2"], "trace"),
     (["show", "examples/area.um", "area", "1<m>", "2<m>"], "show"),
-    (["table", "examples/area.um", "area", "/dev/null"], "calls")])
+    (["table", "examples/area.um", "area", "/dev/null"], "calls"),
+    (["calls", "examples/area.um", "/dev/null"], "calls")])
 def test_a_program_without_a_command_is_told(um, script, words, command):
     older = script(OLDER)
     found = um(*words, UMC=str(older))

@@ -1,6 +1,7 @@
 """Arguments of a call: words of the command line, and files that are read with `@FILE`."""
 import os
 import re
+from collections.abc import Sequence
 from dataclasses import dataclass
 
 from umc.errors import UsageError
@@ -56,7 +57,7 @@ def arguments(words: list[str], other_files: list[str]) -> list[Argument]:
     return [argument(word) for word in words]
 
 
-def line_of_calls(words: list[str]) -> str:
+def line_of_calls(words: Sequence[str]) -> str:
     """A line of `calls` that means these words, without its end.
 
     A line can't hold a tab or the end of a line, so a space stands for each. A comment in an argument ends with its

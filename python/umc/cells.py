@@ -142,18 +142,19 @@ def decimal_text(number: Fraction, digits: int | None) -> str:
     """A number as a decimal: exact if it has finitely many digits, otherwise as `1/3`; or rounded to DIGITS."""
     if digits is not None:
         return _fixed(round(number, digits), digits)
-    bound, twos, fives = number.denominator, 0, 0
-    while bound % 2 == 0:
-        bound, twos = bound // 2, twos + 1
+    bottom = number.denominator
+    twos, fives = (bottom & -bottom).bit_length() - 1, 0
+    bound = bottom >> twos
     while bound % 5 == 0:
         bound, fives = bound // 5, fives + 1
-    return _fixed(number, max(twos, fives)) if bound == 1 else f"{number.numerator}/{number.denominator}"
+    return _fixed(number, max(twos, fives)) if bound == 1 else f"{number.numerator}/{bottom}"
 
 
 def _fixed(number: Fraction, digits: int) -> str:
-    scaled = str(abs(number.numerator) * 10 ** digits // number.denominator).rjust(digits + 1, "0")
+    above, below = number.as_integer_ratio()
+    scaled = str(abs(above) * 10 ** digits // below).rjust(digits + 1, "0")
     text = scaled if digits == 0 else f"{scaled[:-digits]}.{scaled[-digits:]}"
-    return f"-{text}" if number < 0 else text
+    return f"-{text}" if above < 0 else text
 
 
 def cells_of(line: str, name: str, digits: int | None) -> list[tuple[str, str, str]]:

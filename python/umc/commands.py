@@ -160,6 +160,17 @@ def _table(parser: argparse.ArgumentParser) -> None:
     options.run_limits(parser)
 
 
+def _calls(parser: argparse.ArgumentParser) -> None:
+    options.file(parser)
+    parser.add_argument("calls", metavar="CALLS", help="a file with a call on each line: a function and its arguments, "
+                        "with a tab between each two; - is standard input")
+    parser.add_argument("--check", action="store_true", help="tell each refused call on standard error too, and end "
+                        "with the status of the first")
+    options.before(parser)
+    options.budget(parser)
+    options.run_limits(parser)
+
+
 def _watch(parser: argparse.ArgumentParser) -> None:
     options.file(parser, "the program to watch")
     parser.add_argument("rest", metavar="COMMAND WORD..", nargs=argparse.REMAINDER,
@@ -225,6 +236,17 @@ COMMANDS: dict[str, Command] = {command.name: command for command in (
                  "car,mass [kg],speed [m/s],kinetic [kg m^2/s^2]\na,2,3,9\nb,1.5,2,3\n"),
          Example("printf 'd [m]\\n1\\n2\\n6\\n' | ./um table examples/vehicle.um mean - --lists",
                  "mean [m]\n3\n")),
+        "calls"),
+    Command(
+        "calls", "FILE CALLS",
+        "makes the calls that stand in a file, one a line",
+        "The program is read once. Each line is answered by a line: the value, or the report line of a refusal. An\n"
+        "empty line is answered by an empty line. Each call has the whole budget. The limits of the run are for\n"
+        "about 4 MiB of lines, which one run of the program answers.",
+        _calls, "calls:run",
+        (Example("printf 'kinetic\\t2<kg>\\t3<m/s>\\nmean\\t[1<m>; 2<m>]\\nmean\\t[]\\n' | "
+                 "./um calls examples/vehicle.um -",
+                 "9<kg m^2/s^2>\n3r2<m>\nerror 12: division by zero\n"),),
         "calls"),
     Command(
         "tidy", "FILE..",

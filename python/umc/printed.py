@@ -68,7 +68,10 @@ def schemes(output: str) -> list[Tree]:
 
 def fraction(text: str) -> Fraction:
     """The value of a printed number: `7r2`, `-3`, or a decimal of `show`."""
-    return Fraction(text.replace("r", "/"))
+    above, sign, below = text.partition("r")
+    if sign:
+        return Fraction(int(above), int(below))
+    return Fraction(text) if "." in text else Fraction(int(text))
 
 
 class _Reader:

@@ -141,7 +141,7 @@ def _end(process: subprocess.Popen[bytes]) -> None:
 
 
 def built() -> Program:
-    """The program as `find` gives it, if it answers at once. That of a checkout may have to be built, which takes long."""
+    """The program as `find` gives it, if it answers at once. That of a checkout may have to be built first."""
     found = find()
     if found.path != HOME / "umc":
         return found

@@ -13,7 +13,7 @@ from umc.front import Front
 from umc.texts import STANDARD_INPUT, gathered
 
 CLEAR = b"\x1b[H\x1b[2J\x1b[3J"
-NOT_WATCHED = ("watch", "completion", "table")
+NOT_WATCHED = ("watch", "completion", "table", "calls")
 SECONDS = 0.2
 
 

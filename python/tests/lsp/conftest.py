@@ -1,5 +1,6 @@
 """What the tests of the language server share: a session with a server that ends with the test."""
 import importlib.util
+import os
 from collections.abc import Callable, Iterator
 from pathlib import Path
 from typing import Any
@@ -32,8 +33,18 @@ def start() -> Iterator[Callable[..., Client]]:
 
 
 @pytest.fixture(scope="session")
-def client() -> Iterator[Client]:
+def shared() -> Iterator[dict[str, Client]]:
+    """A session with each program that tests ask."""
+    every: dict[str, Client] = {}
+    yield every
+    for client in every.values():
+        client.kill()
+
+
+@pytest.fixture
+def client(shared: dict[str, Client]) -> Client:
     """A session that tests share, each with texts of its own."""
-    shared = Client()
-    yield shared
-    shared.kill()
+    program = os.environ["UMC"]
+    if program not in shared:
+        shared[program] = Client()
+    return shared[program]

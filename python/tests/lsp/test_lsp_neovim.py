@@ -14,7 +14,9 @@ from lsp.samples import EVERY, MARKED, REFUSED, Example, Refused
 HERE = Path(__file__).resolve().parent
 WAIT = 300
 
-pytestmark = pytest.mark.skipif(shutil.which("nvim") is None, reason="Debian's neovim isn't installed")
+# All files are opened by one Neovim, with a program that has all that is looked at.
+pytestmark = [pytest.mark.skipif(shutil.which("nvim") is None, reason="Debian's neovim isn't installed"),
+              *map(pytest.mark.needs, ("explain", "annot", "tidy"))]
 
 
 def place(text: str, offset: int) -> list[int]:

@@ -111,7 +111,7 @@ class TextHandle:
             return [self.call(budget, words) for words in lines]
         found: list[Answer] = []
         for first in range(0, len(lines), CHUNK):
-            found += self._chunk(budget, [line_of_calls(list(words)) for words in lines[first:first + CHUNK]])
+            found += self._chunk(budget, [line_of_calls(words) for words in lines[first:first + CHUNK]])
         return found
 
     def _chunk(self, budget: str, lines: list[str]) -> list[Answer]:

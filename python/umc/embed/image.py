@@ -30,7 +30,7 @@ class Image:
 
     def call(self, function: str, *arguments: Any, step: Step | None = None) -> Any:
         """The value of a call of a function."""
-        return quantity.value_of(self.printed(function, *arguments, step=step), _no_unit)
+        return quantity.value_of(self.printed(function, *arguments, step=step), quantity.reader(_no_unit))
 
 
 def _no_unit(given: Quantity, unit: str) -> Quantity:

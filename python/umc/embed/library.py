@@ -34,6 +34,15 @@ def find() -> str | None:
     return None if is_checkout(HOME) else ctypes.util.find_library("umc")
 
 
+def loaded(name: str) -> Path:
+    """The file of a library that the system found by its name, as Linux tells what this process has loaded."""
+    for line in Path("/proc/self/maps").read_text(errors="replace").splitlines():
+        _, sign, path = line.partition("/")
+        if sign and Path(path).name.startswith(name):
+            return Path(f"/{path}")
+    return Path(sys.prefix) / "lib" / name
+
+
 class Library:
     """The shared library. A question costs no process, and nothing limits its time and memory but the budget."""
 
@@ -50,8 +59,7 @@ class Library:
         self._answer.argtypes = [ctypes.POINTER(ctypes.c_char_p), ctypes.c_size_t, ctypes.c_char_p, ctypes.c_size_t,
                                  ctypes.POINTER(ctypes.c_void_p), ctypes.POINTER(ctypes.c_size_t)]
         self._free.restype, self._free.argtypes = None, [ctypes.c_void_p]
-        # A name without a folder was found by the system; the library's files stand where this Python has its own.
-        self.path = Path(found) if "/" in found else Path(sys.prefix) / "lib" / found
+        self.path = Path(found) if "/" in found else loaded(found)
 
     def __repr__(self) -> str:
         return f"umc.Library({str(self.path)!r})"

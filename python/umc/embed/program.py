@@ -32,7 +32,7 @@ def engine_of(limits: Limits) -> Engine:
 
 
 class Program:
-    """A program of the language that was accepted. Its functions are attributes, as `p.mean`, and items, as `p["mean"]`.
+    """A program of the language that was accepted. Its functions are attributes (`p.mean`) and items (`p["mean"]`).
 
     text: the program, as a string or bytes; `Program.read(path)` reads a file
     library: files of the library that stand before it, as ["si", "list"]
@@ -112,7 +112,9 @@ class Program:
     def answers(self, name: str, rows: Sequence[Sequence[str]]) -> list[Any]:
         """The values, or the refusals, of calls of a function, whose arguments are texts."""
         found = self._handle.calls(str(self.budget), [[name, *row] for row in rows])
-        return [self._value(name, list(row), answer) for row, answer in zip(rows, found, strict=True)]
+        read = quantity.reader(self.convert)
+        return [quantity.value_of(line_of(answer), read) if answer.status == 0 else self._refused(name, row, answer)
+                for row, answer in zip(rows, found, strict=True)]
 
     def answer(self, name: str, arguments: Sequence[str]) -> str:
         """The printed value of a call of a function, whose arguments are texts."""
@@ -125,10 +127,8 @@ class Program:
             found = refused.of_trap(self._handle, self._text, words, found)
         raise found
 
-    def _value(self, name: str, arguments: list[str], answer: Answer) -> Any:
-        if answer.status != 0:
-            return refused.of_call(answer, arguments, self._schemes[name].text)
-        return quantity.value_of(line_of(answer), self.convert)
+    def _refused(self, name: str, arguments: Sequence[str], answer: Answer) -> Refused:
+        return refused.of_call(answer, list(arguments), self._schemes[name].text)
 
     def convert(self, given: Quantity, unit: str) -> Quantity:
         """A quantity in another unit, as the program computes it."""
@@ -188,12 +188,14 @@ class Function:
 
         Raises `umc.Refused` if the program refuses the call, and `umc.ValueRefused` for a value that is no argument.
         """
-        return quantity.value_of(self.printed(*arguments, unit=unit, step=step), self.program.convert)
+        read = quantity.reader(self.program.convert)
+        return quantity.value_of(self.printed(*arguments, unit=unit, step=step), read)
 
     def printed(self, *arguments: Any, unit: Units = None, step: Step | None = None) -> str:
         """The value of a call as the program prints it, as 381r125<m>."""
         writers = self._writers(arguments, unit, step)
-        texts = [_told(writer, argument, number) for number, (writer, argument) in enumerate(zip(writers, arguments), 1)]
+        pairs = enumerate(zip(writers, arguments), 1)
+        texts = [_told(writer, argument, number) for number, (writer, argument) in pairs]
         return self.program.answer(self.name, texts)
 
     def each(self, *columns: Iterable[Any], unit: Units = None, step: Step | None = None,

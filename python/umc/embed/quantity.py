@@ -1,4 +1,5 @@
 """Numbers with a unit, as the program gives them."""
+import re
 from collections.abc import Callable
 from dataclasses import dataclass, field
 from decimal import Decimal
@@ -10,6 +11,7 @@ from umc.errors import UmError
 
 OPEN = "_"
 Conversion = Callable[["Quantity", str], "Quantity"]
+NumberReader = Callable[[re.Match[str]], Any]  # a Quantity
 
 
 def exact_text(number: Fraction) -> str:
@@ -92,10 +94,10 @@ class Quantity:
         return units.Quantity(self.magnitude, whole)
 
 
-def reader(convert: Conversion) -> Callable[[Any], Any]:
-    """Makes the numbers of a printed value."""
-    def read(found: Any) -> Any:
-        return Quantity(printed.fraction(found["number"]), found["unit"] or "", _convert=convert)
+def reader(convert: Conversion) -> NumberReader:
+    """Makes the numbers of printed values."""
+    def read(found: re.Match[str]) -> Quantity:
+        return Quantity(printed.fraction(found["number"]), found["unit"] or "", False, None, convert)
     return read
 
 
@@ -106,6 +108,7 @@ def plain(tree: Any) -> Any:
     return [plain(part) for part in tree] if isinstance(tree, list) else tree
 
 
-def value_of(line: str, convert: Conversion) -> Any:
+def value_of(line: str, read: NumberReader) -> Any:
     """A printed value: a Quantity, a truth value, a list, or a dictionary of a record's fields."""
-    return plain(printed.value(line, reader(convert)))
+    number = printed.NUMBER.fullmatch(line)  # most values are a number, which this finds soonest
+    return read(number) if number else plain(printed.value(line, read))

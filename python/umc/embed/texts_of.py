@@ -9,6 +9,7 @@ from collections.abc import Iterable, Mapping
 from dataclasses import dataclass
 from decimal import Decimal
 from fractions import Fraction
+from functools import cached_property
 from typing import Any
 
 from umc import cells
@@ -48,6 +49,10 @@ class Writer:
 
     def text(self, value: Any) -> str:
         """The text of a value."""
+        if type(value) is int:  # the most common first
+            return f"{value}{self._unit}"
+        if type(value) is Fraction:
+            return exact_text(value) + self._unit
         if isinstance(value, str):
             return self._string(value)
         if isinstance(value, Quantity):
@@ -75,8 +80,9 @@ class Writer:
         return Writer(unit, self.step)
 
     def _number(self, value: Any) -> str:
-        return exact_text(self._exact(value)) + self._unit()
+        return exact_text(self._exact(value)) + self._unit
 
+    @cached_property
     def _unit(self) -> str:
         return "" if self.unit is None or self.unit.strip() in WITHOUT_UNIT else f"<{self.unit}>"
 
@@ -101,7 +107,7 @@ class Writer:
         if self.unit is None or text.rstrip().endswith(">") or text.strip() in cells.TRUTHS:
             return text
         try:
-            return cells.number_text(text.strip()) + self._unit()
+            return cells.number_text(text.strip()) + self._unit
         except cells.CellError as error:
             raise ValueRefused(f"{error}, and unit={self.unit!r} is for numbers") from error
 
