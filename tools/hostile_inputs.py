@@ -11,6 +11,7 @@ from types import ModuleType
 from repository import ROOT
 
 TEXT, IMAGE = 1 << 20, 1 << 24
+MOST_FIELDS = 32
 TOKENS = ["(", ")", "[", "]", "{", "}", "<", ">", "[<", ">]", "->", "::", ":", ";", ",", "=", "|", "_", ".", "+", "-",
           "*", "/", "^", "&&", "||", "<=", "'a", "let", "rec", "in", "if", "then", "else", "match", "with", "type",
           "true", "false", "not", "num", "bool", "list", "Measure", "pown", "x", "1", "2.5", "7r2", "// c\n", "\t",
@@ -89,9 +90,12 @@ TRUE, RET = b"\1\1", b"\x15"
 
 
 def fields(names: list[str]) -> bytes:
-    """A record with many fields."""
-    record = name("R") + number(len(names)) + b"".join(name(it) + b"\0" for it in names)
-    return image([record], [function([TRUE, RET])])
+    """Records with these fields, each with as many as a record may have."""
+    records = []
+    for at in range(0, len(names), MOST_FIELDS):
+        own = names[at:at + MOST_FIELDS]
+        records.append(name(f"R{at}") + number(len(own)) + b"".join(name(it) + b"\0" for it in own))
+    return image(records, [function([TRUE, RET])])
 
 
 def jumps(count: int) -> bytes:

@@ -5,7 +5,7 @@ from pathlib import Path
 
 import pytest
 
-from conftest import HOME, PROGRAM, SONAME, STATIC, VERSION, done, need
+from conftest import DEBIAN, HOME, PROGRAM, SONAME, STATIC, VERSION, done, need
 
 CHECK = HOME / "embed/tests/check.c"
 WRAP = "-Wl,--wrap=malloc,--wrap=realloc"
@@ -52,7 +52,8 @@ def test_the_library_has_no_variables(libraries):
     sizes = {parts[0]: int(parts[1]) for parts in map(str.split, found.splitlines())
              if len(parts) >= 2 and parts[1].isdigit()}
     assert sum(sizes.values()) > 100000
-    assert [name for name, size in sizes.items() if size and re.match(r"\.(data|bss|tdata|tbss)(?!\.rel\.ro)", name)] == []
+    written = re.compile(r"\.(data|bss|tdata|tbss)(?!\.rel\.ro)")
+    assert [name for name, size in sizes.items() if size and written.match(name)] == []
 
 
 def test_it_asks_the_system_for_memory_alone(libraries):
@@ -73,6 +74,12 @@ def test_its_answers_are_those_of_the_program(libraries):
             assert library.answer(words, text) == program.answer(words, text), (file, words)
             compared += 1
     assert compared > 100
+
+
+def test_a_library_that_the_system_finds_tells_its_file(libraries):
+    asks = "import umc, sys; print(umc.Library(sys.argv[1]).path)"
+    environment = {"LD_LIBRARY_PATH": str(libraries), "PYTHONPATH": str(HOME / "python")}
+    assert done(DEBIAN, "-B", "-c", asks, SONAME, env=environment) == f"{libraries / SONAME}\n"
 
 
 def test_the_makefile_says_what_is_missing():

@@ -86,6 +86,18 @@ def package(kind: str, libraries: Path, folder: Path) -> Path:
     return made
 
 
+ASKS = """import umc
+p = umc.Program("let f (x: num<km>) = km_to_m x", library=["si"])
+print(p.f((2, "km")).text, type(p.engine).__name__)
+"""
+
+
+def plain(**more: str) -> dict[str, str]:
+    """The environment, without what says which program, library and module are taken."""
+    ours = ("UMC", "UMC_LIBRARY", "UM_PATH", "PYTHONPATH")
+    return {**{name: it for name, it in os.environ.items() if name not in ours}, "PYTHONDONTWRITEBYTECODE": "1", **more}
+
+
 def test_the_debian_package(libraries, tmp_path):
     need("dpkg-deb", "strip")
     made = package("deb", libraries, tmp_path / "made")
@@ -105,9 +117,23 @@ def test_the_wheel(libraries, tmp_path):
     made = package("wheel", libraries, tmp_path / "made")
     assert made.name == f"umc-{VERSION}-py3-none-linux_x86_64.whl"
     done(DEBIAN, "-m", "wheel", "unpack", "--dest", tmp_path, made)
-    module = tmp_path / f"umc-{VERSION}"
-    text = ("import umc; p = umc.Program('let f (x: num<km>) = km_to_m x', library=['si']); print(p.f((2, 'km')).text, "
-            "type(p.engine).__name__)")
-    environment = {name: it for name, it in os.environ.items() if name not in ("UMC", "UMC_LIBRARY", "UM_PATH")}
-    said = done(DEBIAN, "-c", text, env={**environment, "PYTHONPATH": str(module)}, cwd=tmp_path)
+    said = done(DEBIAN, "-c", ASKS, env=plain(PYTHONPATH=str(tmp_path / f"umc-{VERSION}")), cwd=tmp_path)
     assert shlex.split(said) == ["2000<m>", "Library"]
+
+
+def test_pip_installs_the_wheel(libraries, tmp_path):
+    """Into an environment of its own, without network, and away again."""
+    need("strip")
+    if subprocess.run([DEBIAN, "-c", "import ensurepip, wheel"], capture_output=True).returncode:
+        pytest.skip("Debian's python3-venv or python3-wheel isn't there")
+    made = package("wheel", libraries, tmp_path / "made")
+    done(DEBIAN, "-m", "venv", tmp_path / "venv")
+    before, commands = files(tmp_path / "venv"), tmp_path / "venv/bin"
+    environment = plain(PATH=f"{commands}:/usr/bin:/bin")
+    pip = [commands / "python", "-m", "pip", "--quiet", "--no-input", "--disable-pip-version-check"]
+    done(*pip, "install", "--no-index", "--no-compile", made, env=environment)
+    assert shlex.split(done(commands / "python", "-c", ASKS, env=environment, cwd=tmp_path)) == ["2000<m>", "Library"]
+    called = ["run", HOME / "examples/vehicle.um", "metres", "10<ft>"]
+    assert done(commands / "um", *called, env=environment, cwd=tmp_path) == "381r125<m>\n"
+    done(*pip, "uninstall", "--yes", "umc", env=environment)
+    assert [name for name in files(tmp_path / "venv") if name not in before and "__pycache__" not in name] == []
