@@ -1,6 +1,7 @@
 //! Names, each once, with the numbers that they have in the order in which they came.
 
-ghost use Rattle.std.specs.Prelude.{◌≡◌, ◌∷◌, ◌++◌, [], cond, IfOk, OnOk, length};
+ghost use Rattle.std.specs.Prelude.{◌≡◌, ◌∷◌, ◌++◌, [], cond, IfOk, OnOk, length, slice_get};
+ghost use Rattle.std.specs.Option.{option_map};
 ghost use Rattle.um_measures.specs.Known.{is_among, number_of};
 
 use crate::digest::{NameDigest, Places};
@@ -53,6 +54,16 @@ impl NameTable {
     {
         match self.set.get_index_of(name) {
             Some(k) => Some(k as u32),
+            None => None,
+        }
+    }
+
+    /// The name of a number, if there is one.
+    pub fn name(&self, number: u32) -> Option<&[u8]>
+        ensures { option_map (λ name. name.now) result ≡ slice_get self.now number }
+    {
+        match self.set.get_index(number as usize) {
+            Some(name) => Some(name.as_slice()),
             None => None,
         }
     }

@@ -8,6 +8,7 @@ mod DeclCompletions
 mod ProgramSound
 mod DeclHeights
 mod ProgramLow
+mod Cut
 mod ProgramExact
 mod ProgramNodes
 mod LimitLaws

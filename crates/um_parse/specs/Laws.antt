@@ -1,12 +1,19 @@
 -- What holds of the grammar of programs and of the answers of `parse`.
 -- Source: this project's own.
-use Rattle.std.specs.Prelude.{◌≡◌, ℕ, List, Result, Ok, Err}
+use Rattle.std.specs.Prelude.{◌≡◌, ◌↔◌, ℕ, Bool, true, false, List, ◌∷◌, ◌++◌, Result, Ok, Err}
+use Rattle.um_syntax.specs.declared.token.Kind.{Kind}
+use Rattle.um_syntax.specs.declared.token.Kind.TheVariants as kind
 use Rattle.um_syntax.specs.declared.token.Token.{Token}
+use Rattle.um_syntax.specs.declared.vocabulary.Keyword.TheVariants as keyword
+use Rattle.um_syntax.specs.declared.vocabulary.Symbol.TheVariants as symbol
 use Rattle.um_tree.specs.declared.raw.RawProgram.{RawProgram}
 use Rattle.um_tree.specs.RawTree.{DeclSyntax, program_syntax}
+use Rattle.um_reader.specs.Texts.{BeginsText, BeginsTextWithin}
+use Rattle.um_types.specs.UnitStops.{greatest_height}
 use Rattle.um_types.specs.declared.parse.ParseStop.{ParseStop}
 use Rattle.um_types.specs.declared.parse.ParseStop.TheVariants as stop
 use Rattle.um_parse.specs.DeclGrammar.{IsProgram}
+use Rattle.um_parse.specs.ProgramHeights.{program_height}
 use Rattle.um_parse.specs.Parsed.{Parsed}
 
 -- a list of tokens is one program at most
@@ -28,3 +35,26 @@ abbrev pub AnswersAreUnique : Type 0
 AnswersAreUnique =
     (tokens : List Token) (end : ℕ) (one other : Result RawProgram ParseStop) → Parsed tokens end one
     → Parsed tokens end other → AreSameAnswer one other
+
+-- ---- the last declaration
+
+-- a declaration begins with `let`, `type` or `[<`
+abbrev pub begins_declaration : Kind → Bool
+begins_declaration (kind.Word keyword.Let) = true
+begins_declaration (kind.Word keyword.Type) = true
+begins_declaration (kind.Sign symbol.AttributeOpen) = true
+begins_declaration _ = false
+
+-- what holds of these tokens holds of those from the declaration on
+pub record IsCut (pre part : List Token) : Type 0 where
+  pub begins : BeginsText IsProgram (pre ++ part) ↔ BeginsText IsProgram part
+  pub within :
+      BeginsTextWithin IsProgram program_height greatest_height (pre ++ part)
+      → BeginsTextWithin IsProgram program_height greatest_height part
+  pub whole : ((ds : List DeclSyntax) × IsProgram (pre ++ part) ds) ↔ ((ds : List DeclSyntax) × IsProgram part ds)
+
+-- after a program a token that begins a declaration begins the next one, whatever stands in the program
+abbrev pub DeclarationsAreCut : Type 0
+DeclarationsAreCut =
+    (pre : List Token) (ds : List DeclSyntax) (t : Token) (rest : List Token) → IsProgram pre ds
+    → begins_declaration t.kind ≡ true → IsCut pre (t ∷ rest)

@@ -4,7 +4,6 @@ use Rattle.std.specs.Prelude.{ℕ, max, List, []}
 use Rattle.um_syntax.specs.declared.token.Token.{Token}
 use Rattle.um_reader.specs.Machine.{Machine}
 use Rattle.um_tree.specs.RawTree.{DeclSyntax}
-use Rattle.um_types.specs.UnitLeast.{least}
 use Rattle.um_parse.specs.ProgramHeights.{program_height}
 use Rattle.um_decls.specs.DeclLeast.{decl_least}
 use Rattle.um_decls.specs.DeclMachine.{DeclBegin, Expects, ProgramState, InProgram, NoProgram, program_step}

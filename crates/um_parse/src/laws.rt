@@ -1,5 +1,5 @@
 //! Laws of the grammar of programs. A call does nothing: what it ensures is the law.
-ghost use Rattle.um_parse.specs.Laws.{ProgramsAreUnique, AnswersAreUnique};
+ghost use Rattle.um_parse.specs.Laws.{ProgramsAreUnique, AnswersAreUnique, DeclarationsAreCut};
 
 /// No other program has the same tokens.
 pub fn programs_are_unique()
@@ -9,4 +9,10 @@ pub fn programs_are_unique()
 /// The clause of [`crate::parse`] allows one answer to each list of tokens, apart from want of memory.
 pub fn answers_are_unique()
     ensures { AnswersAreUnique }
+{}
+
+/// After a program a token that begins a declaration begins the next one: what the tokens from there on begin or are,
+/// all tokens begin or are.
+pub fn declarations_are_cut()
+    ensures { DeclarationsAreCut }
 {}
