@@ -7,12 +7,11 @@ ghost use Rattle.um_lines.specs.Sources.{call_lines, words_in};
 ghost use Rattle.um_reports.specs.Steps.{line as line_with, Cases};
 ghost use Rattle.um_front.specs.Parts.{checked_tree};
 ghost use Rattle.um_call_answers.specs.AskedCall.{IsShortCall};
-ghost use Rattle.um_call_answers.specs.Calling.{asked_call};
+ghost use Rattle.um_call_answers.specs.Calling.{IsCallableIn, asked_call};
 ghost use Rattle.um_call_answers.specs.CallAnswer.{IsCallAnswer, RunAnswer};
 ghost use Rattle.um_call_answers.specs.CallsAnswer.{SourceAnswer, AreCallsAnswers, AreLineAnswers, IsLineAnswer};
 ghost use Rattle.um_call_answers.specs.CallsAnswer.{IsRunText, are_short as are_short_words};
 
-use crate::asked::read_asked;
 use crate::call_words::CallWords;
 use crate::compiled::Compiled;
 use crate::outcome::{Ended, reply_to_outcome};
@@ -22,8 +21,8 @@ use std::str;
 use um_front::{Answer, Checked, Text, check};
 use um_gen::generate;
 use um_lines::{cut_source, next_line, words_of};
-use um_reports::{Reply, Status, reply_line};
-use um_run::Call;
+use um_reports::{Reply, Status, reply_line, reply_to_call};
+use um_run::{Call, Callable, callable_of, read_call_of};
 
 /// The longest text of a program, in bytes.
 const TEXT_LIMIT: usize = 1_048_576;
@@ -34,9 +33,10 @@ const WORD_LIMIT: usize = 1_048_576;
 /// The answer to `calls` about the bytes that were read. The text before the first line that is `---` alone is a
 /// program, and each line after it is a call by its words, which stand between tabs.
 ///
-/// The budget, at most 10,000,000, is that of each call. The program is read, typed and compiled once, and each line is
-/// answered as `run` answers its words. Beside the answer it takes memory for one call at a time. Want of memory is the
-/// one error; each refusal is an answer. The rules are this project's own.
+/// The budget, at most 10,000,000, is that of each call. The program is read, typed and compiled once, the tables of
+/// its names are made once, and each line is answered as `run` answers its words: it takes time for its words and its
+/// call. Beside the answer it takes memory for one call at a time. Want of memory is the one error; each refusal is an
+/// answer. The rules are this project's own.
 pub fn answer_calls(alloc: Global, budget: u64, bytes: &[u8]) -> Answer
     requires small { budget ≤ 10000000 }
     ensures { IfOk result (λ reply. SourceAnswer budget bytes.now reply.text.items reply.status) }
@@ -71,12 +71,33 @@ fn answer_lines(alloc: Global, budget: u64, calls: &[u8], checked: &Checked) -> 
 {
     let code = generate(alloc, checked.shaped())?;
     let program = Compiled::new(checked, &code);
-    let text = line_answers(alloc, budget, calls, &program);
+    let text = named_answers(alloc, budget, calls, checked, &program);
     drop(code);
     Ok(Reply {
         text: text?,
         status: Status::Done,
     })
+}
+
+/// The answers to the lines, with tables of the program's names that are made once.
+fn named_answers(
+    alloc: Global,
+    budget: u64,
+    calls: &[u8],
+    checked: &Checked,
+    program: &Compiled,
+) -> Result<Vec<u8>, AllocError>
+    requires small { budget ≤ 10000000 }
+    requires same { program.now ≡ checked.now }
+    ensures { IfOk result (λ text. AreLineAnswers budget (checked_tree checked.now) (call_lines calls.now) text.items) }
+{
+    let shaped = checked.shaped();
+    let schemes = checked.schemes();
+    let abbreviations = checked.abbreviations();
+    let callable = callable_of(alloc, shaped, schemes, abbreviations)?;
+    let text = line_answers(alloc, budget, calls, program, &callable);
+    drop(callable);
+    text
 }
 
 /// The answers to the lines, one after another.
@@ -85,14 +106,16 @@ fn line_answers(
     budget: u64,
     calls: &[u8],
     program: &Compiled,
+    callable: &Callable,
 ) -> Result<Vec<u8>, AllocError>
     requires small { budget ≤ 10000000 }
+    requires callable { IsCallableIn program.now callable.now }
     ensures { IfOk result (λ text. AreLineAnswers budget (checked_tree program.now) (call_lines calls.now) text.items) }
 {
     let mut text = Vec::new(alloc);
     let mut rest = calls;
     'lines: while let Some((line, after)) = next_line(rest) {
-        let reply = answer_line(alloc, budget, line, program)?;
+        let reply = answer_line(alloc, budget, line, program, callable)?;
         text.extend_from_slice(&reply.text)?;
         rest = after;
     }
@@ -100,35 +123,56 @@ fn line_answers(
 }
 
 /// The answer to a line.
-fn answer_line(alloc: Global, budget: u64, line: &[u8], program: &Compiled) -> Answer
+fn answer_line(
+    alloc: Global,
+    budget: u64,
+    line: &[u8],
+    program: &Compiled,
+    callable: &Callable,
+) -> Answer
     requires small { budget ≤ 10000000 }
+    requires callable { IsCallableIn program.now callable.now }
     ensures { IfOk result (λ reply. IsLineAnswer budget (checked_tree program.now) line.now reply.text.items) }
 {
     if line.is_empty() {
         return reply_line(alloc, "", Status::Done);
     }
     match str::from_utf8(line) {
-        Ok(line) => answer_words(alloc, budget, line, program),
+        Ok(line) => answer_words(alloc, budget, line, program, callable),
         Err(_) => reply_line(alloc, "error 1: usage", Status::Usage),
     }
 }
 
 /// The answer to the words of a line.
-fn answer_words(alloc: Global, budget: u64, line: &str, program: &Compiled) -> Answer
+fn answer_words(
+    alloc: Global,
+    budget: u64,
+    line: &str,
+    program: &Compiled,
+    callable: &Callable,
+) -> Answer
     requires small { budget ≤ 10000000 }
+    requires callable { IsCallableIn program.now callable.now }
     ensures { IfOk result (λ reply. Cases (IsTrue (are_short_words (words_in line.now)))
         (IsRunText budget (checked_tree program.now) (words_in line.now) reply.text.items)
         (reply.text.items ≡ line_with (codes "error 1: usage"))) }
 {
     let words = words_of(alloc, line)?;
-    let answer = answer_call_by(alloc, budget, &words, program);
+    let answer = answer_call_by(alloc, budget, &words, program, callable);
     drop(words);
     answer
 }
 
 /// The answer to a call by its words.
-fn answer_call_by(alloc: Global, budget: u64, words: &[String], program: &Compiled) -> Answer
+fn answer_call_by(
+    alloc: Global,
+    budget: u64,
+    words: &[String],
+    program: &Compiled,
+    callable: &Callable,
+) -> Answer
     requires small { budget ≤ 10000000 }
+    requires callable { IsCallableIn program.now callable.now }
     requires some { 0 < length words.now }
     ensures { IfOk result (λ reply. Cases (IsTrue (are_short_words (map string_bytes words.now)))
         (IsRunText budget (checked_tree program.now) (map string_bytes words.now) reply.text.items)
@@ -142,7 +186,7 @@ fn answer_call_by(alloc: Global, budget: u64, words: &[String], program: &Compil
         name: words[0].as_str(),
         texts: &words[1..],
     };
-    answer_compiled(alloc, &call, program)
+    answer_compiled(alloc, &call, program, callable)
 }
 
 /// Whether each word is at most 1,048,576 bytes long.
@@ -153,18 +197,24 @@ fn are_short(words: &[String]) -> bool
 }
 
 /// The answer to a call, as `run` gives it.
-fn answer_compiled(alloc: Global, call: &CallWords, program: &Compiled) -> Answer
+fn answer_compiled(
+    alloc: Global,
+    call: &CallWords,
+    program: &Compiled,
+    callable: &Callable,
+) -> Answer
     requires call { IsShortCall (asked_call call.now) }
+    requires callable { IsCallableIn program.now callable.now }
     ensures { IfOk result (λ reply. IsCallAnswer Way.Code (asked_call call.now) (checked_tree program.now)
         reply.text.items reply.status) }
 {
-    match read_asked(alloc, call, program.checked()) {
+    match read_call_of(alloc, callable, call.name, call.texts) {
         Ok(read) => {
             let answer = reply_to_compiled(alloc, call.budget, program, &read);
             drop(read);
             answer
         }
-        Err(refused) => refused,
+        Err(refusal) => reply_to_call(alloc, call.texts, refusal),
     }
 }
 

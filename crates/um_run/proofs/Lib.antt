@@ -1,6 +1,7 @@
 pub mod FunctionNames
 pub mod Inputs
 pub mod OneByOne
+mod AddedNames
 mod CallParts
 pub mod CallLaws
 pub mod UniqueCalls

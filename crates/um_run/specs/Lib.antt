@@ -6,3 +6,4 @@ pub mod ImageCalls
 pub mod ImageLaws
 -- What mirrors the code.
 pub mod Reading
+pub mod Callable

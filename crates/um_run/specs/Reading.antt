@@ -4,11 +4,10 @@ use Rattle.std.specs.Prelude.{◌≡◌, ◌≢◌, ℕ, List, [], ◌∷◌, �
 use Rattle.um_tree.specs.TypeTree.{ShapeTree}
 use Rattle.um_tree.specs.ValueTree.{InputTree, input_tree}
 use Rattle.um_tree.specs.declared.value.Inputs.{Inputs}
-use Rattle.um_tree.specs.ProgramTree.{program_tree}
 use Rattle.um_measures.specs.Known.{Known}
-use Rattle.um_measures.specs.ClosedUnits.{given}
 use Rattle.um_value.specs.declared.stop.InputStop.{InputStop}
 use Rattle.um_value.specs.declared.stop.InputStop.TheVariants as input_stop
+use Rattle.um_value.specs.KnownNames.{known_in}
 use Rattle.um_value.specs.InputRead.{IsInputOf}
 use Rattle.um_infer.specs.declared.stop.CallStop.{CallStop}
 use Rattle.um_infer.specs.declared.stop.CallStop.TheVariants as call_stop
@@ -19,7 +18,7 @@ use Rattle.um_run.specs.Calls.{IsInput, AreInputs, IsFirstRefused}
 
 -- the names that the texts of arguments may use
 abbrev pub known_names : KnownParts → Known
-known_names known = given (program_tree known.program.now) known.abbreviations.now
+known_names known = known_in known.names.now
 
 -- the refusal of an argument; want of memory is none
 abbrev pub IsArgumentRefused : ℕ → InputStop → CallRefusal → Type 0

@@ -2,7 +2,6 @@
 ghost use Rattle.std.specs.Prelude.{◌≡◌, ◌≤◌, ℕ, All, List, length, map, string_bytes};
 ghost use Rattle.um_tree.specs.TypeTree.{shape_tree};
 ghost use Rattle.um_tree.specs.ValueTree.{input_tree};
-ghost use Rattle.um_tree.specs.ProgramTree.{program_tree};
 ghost use Rattle.um_tree.specs.Formed.{IsFormed};
 ghost use Rattle.um_value.specs.ValueGrammar.{IsShapeIn};
 ghost use Rattle.um_run.specs.Reading.{IsArgumentRefused, IsArgumentAdded, AreArgumentsRead, known_names};
@@ -10,7 +9,7 @@ ghost use Rattle.um_run.specs.Reading.{IsArgumentRefused, IsArgumentAdded, AreAr
 use crate::CallRefusal;
 use crate::known::Known;
 use um_tree::{Input, Inputs, Shape};
-use um_value::{InputStop, read_value};
+use um_value::{InputStop, read_known_value};
 
 /// The inputs that the texts are, one at each shape, or the first that is refused.
 pub(crate) fn read_arguments(
@@ -18,8 +17,8 @@ pub(crate) fn read_arguments(
     shapes: &[Shape],
     texts: &[String],
 ) -> Result<Inputs, CallRefusal>
-    requires formed { IsFormed (program_tree known.now.program.now) }
-    requires shapes { All (IsShapeIn (program_tree known.now.program.now).records) (map shape_tree shapes.now) }
+    requires formed { IsFormed (known_names known.now).program }
+    requires shapes { All (IsShapeIn (known_names known.now).program.records) (map shape_tree shapes.now) }
     requires count { length texts.now ≡ length shapes.now }
     requires few { length texts.now ≤ 16 }
     requires short { All (λ (text : List ℕ). length text ≤ 1048576) (map string_bytes texts.now) }
@@ -47,13 +46,13 @@ fn add_argument(
     text: &str,
     inputs: &mut Vec<Input>,
 ) -> Result<(), CallRefusal>
-    requires formed { IsFormed (program_tree known.now.program.now) }
-    requires shape { IsShapeIn (program_tree known.now.program.now).records (shape_tree shape.now) }
+    requires formed { IsFormed (known_names known.now).program }
+    requires shape { IsShapeIn (known_names known.now).program.records (shape_tree shape.now) }
     requires short { length text.now ≤ 1048576 }
     ensures { IsArgumentAdded (known_names known.now) (shape_tree shape.now) text.now k
         (map input_tree inputs.old.items) (map input_tree inputs.new.items) result }
 {
-    match read_value(known.alloc, text, shape, known.program, known.abbreviations) {
+    match read_known_value(known.alloc, text, shape, known.names) {
         Ok(input) => Ok(inputs.push(input)?),
         Err(stop) => Err(refusal_of(k, stop)),
     }

@@ -3,6 +3,7 @@ ghost use Rattle.std.specs.Prelude.{◌≡◌, ◌<◌, ◌≤◌, ℕ, All, IfO
 ghost use Rattle.um_tree.specs.TypeTree.{shape_tree};
 ghost use Rattle.um_tree.specs.ProgramTree.{program_tree};
 ghost use Rattle.um_tree.specs.Formed.{IsFormed};
+ghost use Rattle.um_measures.specs.ClosedUnits.{given};
 ghost use Rattle.um_value.specs.ValueGrammar.{IsShapeIn};
 ghost use Rattle.um_run.specs.Reading.{AreArgumentsRead};
 ghost use Rattle.um_verify.specs.ImageTree.{HeadTree, image_tree, HasForm};
@@ -21,6 +22,7 @@ use um_image::plain_records;
 use um_measures::Abbreviations;
 use um_tree::{Functions, Inputs, Names, Program, Shape};
 use um_units::NoMemory;
+use um_value::names_of;
 use um_verify::{Head, Image};
 
 /// The call of the image's function of this name with the arguments that the texts are.
@@ -99,13 +101,38 @@ fn arguments_of(
     match program_of(alloc, image) {
         Ok(program) => {
             let abbreviations = Abbreviations::from_vec(Vec::new(alloc));
+            let inputs = inputs_of(alloc, &program, &abbreviations, shapes, texts);
+            drop(program);
+            inputs
+        }
+        Err(_) => Err(CallRefusal::NoMemory),
+    }
+}
+
+/// The same over a program with its abbreviations.
+fn inputs_of(
+    alloc: Global,
+    program: &Program,
+    abbreviations: &Abbreviations,
+    shapes: &[Shape],
+    texts: &[String],
+) -> Result<Inputs, CallRefusal>
+    requires formed { IsFormed (program_tree program.now) }
+    requires shapes { All (IsShapeIn (program_tree program.now).records) (map shape_tree shapes.now) }
+    requires count { length texts.now ≡ length shapes.now }
+    requires few { length texts.now ≤ 16 }
+    requires short { All (λ (text : List ℕ). length text ≤ 1048576) (map string_bytes texts.now) }
+    ensures { AreArgumentsRead (given (program_tree program.now) abbreviations.now) (map shape_tree shapes.now)
+        (map string_bytes texts.now) result }
+{
+    match names_of(alloc, program, abbreviations) {
+        Ok(names) => {
             let known = Known {
                 alloc,
-                program: &program,
-                abbreviations: &abbreviations,
+                names: &names,
             };
             let inputs = read_arguments(&known, shapes, texts);
-            drop(program);
+            drop(names);
             inputs
         }
         Err(_) => Err(CallRefusal::NoMemory),

@@ -2,7 +2,8 @@
 ghost use Rattle.std.specs.Prelude.{◌≡◌, ◌<◌, ◌≤◌, ℕ, All, IfOk, List, length, map, slice_get, string_bytes, Some};
 ghost use Rattle.um_tree.specs.ValueTree.{input_tree, inputs_in_order};
 ghost use Rattle.um_tree.specs.ProgramTree.{FunctionTree, program_tree};
-ghost use Rattle.um_tree.specs.Formed.{AreFormedInputs};
+ghost use Rattle.um_tree.specs.Formed.{AreFormedInputs, IsFormed};
+ghost use Rattle.um_value.specs.KnownNames.{known_in};
 ghost use Rattle.um_infer.specs.Answers.{scheme_trees};
 ghost use Rattle.um_infer.specs.CallJudgement.{judge_call};
 ghost use Rattle.um_infer.specs.Inference.{all_schemes, infer};
@@ -19,6 +20,7 @@ use um_infer::{CallStop, type_call};
 use um_measures::Abbreviations;
 use um_shape::Shaped;
 use um_tree::{Inputs, Schemes};
+use um_value::{KnownNames, names_of};
 
 /// The call of the function of this name with the arguments that the texts are, given the schemes that `infer` answered
 /// for the program, and its abbreviations.
@@ -74,16 +76,42 @@ fn call_to(
         → IsCallTo (program_tree shaped.now) abbreviations.now (scheme_trees schemes.now) function f
         (map string_bytes texts.now) (call_answer result) }
 {
+    match names_of(alloc, shaped.program(), abbreviations) {
+        Ok(names) => {
+            let call = read_known_call(alloc, shaped, schemes, &names, function, texts);
+            drop(names);
+            call
+        }
+        Err(_) => Err(CallRefusal::NoMemory),
+    }
+}
+
+/// The call of the function of this number with the arguments that the texts are, with names that are made once.
+///
+/// As [`read_call`], which has the errors but `NoFunction`. Its time depends on the texts and the function alone.
+pub(crate) fn read_known_call(
+    alloc: Global,
+    shaped: &Shaped,
+    schemes: &Schemes,
+    names: &KnownNames,
+    function: u32,
+    texts: &[String],
+) -> Result<Call, CallRefusal>
+    requires function { function < length (program_tree shaped.now).functions }
+    requires names { (known_in names.now).program ≡ program_tree shaped.now }
+    requires formed { IsFormed (program_tree shaped.now) }
+    requires inferred { infer (program_tree shaped.now) ≡ all_schemes (scheme_trees schemes.now) }
+    requires closed { AreClosedUnits (length (program_tree shaped.now).bases) (known_in names.now).shorts }
+    requires short { All (λ (text : List ℕ). length text ≤ 1048576) (map string_bytes texts.now) }
+    ensures { (f : FunctionTree) → slice_get (program_tree shaped.now).functions function ≡ Some f
+        → IsCallTo (program_tree shaped.now) (known_in names.now).shorts (scheme_trees schemes.now) function f
+        (map string_bytes texts.now) (call_answer result) }
+{
     let shapes = shaped.param_shapes(function);
     if texts.len() != shapes.len() {
         return Err(CallRefusal::WrongCount);
     }
-    let known = Known {
-        alloc,
-        program: shaped.program(),
-        abbreviations,
-    };
-    let inputs = read_arguments(&known, shapes, texts)?;
+    let inputs = read_arguments(&Known { alloc, names }, shapes, texts)?;
     typed_call(alloc, shaped, schemes, function, inputs)
 }
 

@@ -7,6 +7,7 @@ pub mod ValueStops
 pub mod InputRead
 pub mod Laws
 -- What mirrors the code: the machine that reads token by token, and the reader by the machine's states.
+pub mod KnownNames
 pub mod RangeStops
 pub mod ReadingParts
 pub mod ValueMachine

@@ -5,11 +5,15 @@
 //!
 //! ```
 //! let input = read_value(alloc, "[1<m>; 2.5<m>]", &shape, &program, &abbreviations)?;
+//!
+//! let known = names_of(alloc, &program, &abbreviations)?; // once, for many texts
+//! let input = read_known_value(alloc, "[1<m>; 2.5<m>]", &shape, &known)?;
 //! ```
 #![tactic(auto)]
 
 mod frame;
 mod inputs;
+mod known;
 pub mod laws;
 mod names;
 mod raw;
@@ -19,6 +23,7 @@ mod reading;
 mod stop;
 mod wanted;
 
-pub use read::read_value;
+pub use known::KnownNames;
+pub use read::{names_of, read_known_value, read_value};
 pub use stop::InputStop;
 pub use um_cells::Runner;

@@ -1,5 +1,5 @@
 // Arguments as a user writes them.
-ghost use Rattle.std.specs.Prelude.{◌≤◌, All, IfOk, length};
+ghost use Rattle.std.specs.Prelude.{◌≡◌, ◌≤◌, All, IfOk, length};
 ghost use Rattle.um_tree.specs.Formed.{IsFormed, IsUnitIn, IsFormedInput};
 ghost use Rattle.um_tree.specs.InputType.{ValueHas};
 ghost use Rattle.um_tree.specs.ValueTree.{input_tree, without_units};
@@ -11,14 +11,16 @@ ghost use Rattle.um_measures.specs.ClosedUnits.{given};
 ghost use Rattle.um_value.specs.ValueSyntax.{value_syntax};
 ghost use Rattle.um_value.specs.ValueGrammar.{IsShapeIn};
 ghost use Rattle.um_value.specs.InputRead.{IsInputOf};
+ghost use Rattle.um_value.specs.KnownNames.{known_in};
 ghost use Rattle.um_value.specs.ReadingParts.{IsLexed, IsNamed};
 
 use crate::inputs::input_of;
+use crate::known::KnownNames;
 use crate::names::name_fault;
 use crate::raw::RawValue;
 use crate::reading::read_raw;
 use crate::stop::InputStop;
-use std::alloc::Global;
+use std::alloc::{AllocError, Global};
 use um_measures::{Abbreviations, Measures, measures_of};
 use um_syntax::{LexStop, Tokens, lex};
 use um_tree::{Input, Program, Shape};
@@ -47,19 +49,53 @@ fn checked_input(alloc: Global, measures: &Measures, raw: &RawValue) -> Result<I
     }
 }
 
-// The same, with the measures of the program and the abbreviations.
-fn named_input(
+/// The names of a program and its abbreviations. It takes time for all of its measures. Want of memory is the one
+/// error.
+pub fn names_of<'a>(
     alloc: Global,
-    program: &Program,
-    abbreviations: &Abbreviations,
-    raw: &RawValue,
-) -> Result<Input, InputStop>
-    ensures { IsNamed (measure_unit (given (program_tree program.now) abbreviations.now)) (value_syntax raw.now)
-        result }
+    program: &'a Program,
+    abbreviations: &'a Abbreviations,
+) -> Result<KnownNames<'a>, AllocError>
+    ensures { IfOk result (λ names. known_in names ≡ given (program_tree program.now) abbreviations.now) }
 {
     let measures = measures_of(alloc, program, abbreviations)?;
-    let input = checked_input(alloc, &measures, raw);
-    drop(measures);
+    Ok(KnownNames {
+        program,
+        abbreviations,
+        measures,
+    })
+}
+
+// The same, with the measures of the names.
+fn named_input(alloc: Global, known: &KnownNames, raw: &RawValue) -> Result<Input, InputStop>
+    ensures { IsNamed (measure_unit (known_in known.now)) (value_syntax raw.now) result }
+{
+    checked_input(alloc, &known.measures, raw)
+}
+
+/// The input of a shape that a text is, with names that are known.
+///
+/// As [`read_value`], which has the forms, the places and the errors; its time depends on the text and the shape alone.
+pub fn read_known_value(
+    alloc: Global,
+    text: &str,
+    shape: &Shape,
+    known: &KnownNames,
+) -> Result<Input, InputStop>
+    requires short { length text.now ≤ 1048576 }
+    requires formed { IsFormed (known_in known.now).program }
+    requires shape { IsShapeIn (known_in known.now).program.records (shape_tree shape.now) }
+    ensures exact { IsInputOf (known_in known.now) (shape_tree shape.now) text.now result }
+    ensures shaped { IfOk result (λ input. ValueHas (known_in known.now).program.records
+        (without_units (input_tree input)) (shape_tree shape.now)) }
+    ensures formed { All (λ (short : Abbreviation). IsUnitIn (length (known_in known.now).program.bases) 0 short.unit)
+        (known_in known.now).shorts
+        → IfOk result (λ input. IsFormedInput (length (known_in known.now).program.bases) (input_tree input)) }
+{
+    let tokens = tokens_of(alloc, text)?;
+    let raw = read_raw(alloc, known.program, shape, tokens, text.len() as u32)?;
+    let input = named_input(alloc, known, &raw);
+    drop(raw);
     input
 }
 
@@ -98,9 +134,8 @@ pub fn read_value(
     ensures formed { All (λ (short : Abbreviation). IsUnitIn (length program.now.bases) 0 short.unit) abbreviations.now
         → IfOk result (λ input. IsFormedInput (length program.now.bases) (input_tree input)) }
 {
-    let tokens = tokens_of(alloc, text)?;
-    let raw = read_raw(alloc, program, shape, tokens, text.len() as u32)?;
-    let input = named_input(alloc, program, abbreviations, &raw);
-    drop(raw);
+    let known = names_of(alloc, program, abbreviations)?;
+    let input = read_known_value(alloc, text, shape, &known);
+    drop(known);
     input
 }

@@ -3,7 +3,6 @@ use Rattle.std.specs.Prelude.{string_bytes}
 use Rattle.std.proofs.lemmas.List.{length-map}
 use Rattle.um_tree.specs.TypeTree.{shape_tree}
 use Rattle.um_tree.specs.ValueTree.{input_tree}
-use Rattle.um_tree.specs.ProgramTree.{program_tree}
 use Rattle.um_tree.proofs.Moved.{All_at}
 use Rattle.um_value.specs.ValueGrammar.{IsShapeIn}
 use Rattle.um_run.specs.Reading.{known_names}
@@ -16,7 +15,7 @@ add_argument-requires-clause-shape c =
     let k = c.loop-k.k in
     let x = c.index-shapes-k.result in
     let within : k < length shapes = omega (arith, c.loop-k-test.true, c.requires.count) in
-    All_at (IsShapeIn (program_tree c.args.known.now.program.now).records) (map shape_tree shapes) k (shape_tree x) (shown_at shape_tree shapes k x within c.index-shapes-k.is) c.requires.shapes
+    All_at (IsShapeIn (known_names c.args.known.now).program.records) (map shape_tree shapes) k (shape_tree x) (shown_at shape_tree shapes k x within c.index-shapes-k.is) c.requires.shapes
 
 pub add_argument-requires-clause-short : goal.add_argument-requires-clause-short
 add_argument-requires-clause-short c =
