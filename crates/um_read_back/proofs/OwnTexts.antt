@@ -13,7 +13,7 @@ use Rattle.um_units.specs.Range.{fits, all_in_range, in_range}
 use Rattle.um_units.specs.Variables.{IsClosed}
 use Rattle.um_units.proofs.Equality.{power_in-before_all, power_in-head, power_in-tail}
 use Rattle.um_tree.specs.Formed.{BasesBelow}
-use Rattle.um_show.specs.UnitText.{base_name, stands_before, with_term, ordered_terms, is_factor, is_divisor, factors_text, divisors_text, terms_text, unit_text}
+use Rattle.um_show.specs.UnitText.{base_name, variable_text, stands_before, with_term, ordered_terms, is_factor, is_divisor, factors_text, divisors_text, terms_text, unit_text}
 use Rattle.um_show.proofs.Chain.{fresh, full, IsGoodName}
 use Rattle.um_read_back.proofs.Segments.{Segment, segment_of}
 use Rattle.um_read_back.proofs.UnitTexts.{IsUnitOf}
@@ -123,7 +123,7 @@ module _ (measures : List ℕ → Option PowerMap) (bases : List (List ℕ)) (n 
         let part = size_filter p (ordered_terms bases w.terms) x in let all = ordered_size bases w.terms x in let most = size_low w.terms w.normal fit x in
         omega (arith, part, all, most)
 
-    parts : Segment (factors_text bases fs ++ divisors_text bases ds) (fresh true false) full (IsUnitOf measures w)
+    parts : Segment (factors_text variable_text bases fs ++ divisors_text variable_text bases ds) (fresh true false) full (IsUnitOf measures w)
     parts =
         segment_parts measures bases n names known w fit fs ds (filter_base n is_factor (ordered_terms bases w.terms) own) (filter_base n is_divisor (ordered_terms bases w.terms) own)
         (λ x. sym (ordered_power bases w.terms x) ∙ power_split (ordered_terms bases w.terms) x) (small is_factor) (small is_divisor)
@@ -132,5 +132,5 @@ module _ (measures : List ℕ → Option PowerMap) (bases : List (List ℕ)) (n 
     by : (ts : List Term) → ordered_terms bases w.terms ≡ ts → Segment (unit_text bases w) (fresh true false) full (IsUnitOf measures w)
     by [] none = absurd (ordered_some bases w.terms some none)
     by (t ∷ ts) is =
-        segment_of (factors_text bases fs ++ divisors_text bases ds) (unit_text bases w) (fresh true false) full (IsUnitOf measures w)
-        (ap (λ us. factors_text bases (filter is_factor us) ++ divisors_text bases (filter is_divisor us)) is ∙ ap (terms_text bases) (sym is)) parts
+        segment_of (factors_text variable_text bases fs ++ divisors_text variable_text bases ds) (unit_text bases w) (fresh true false) full (IsUnitOf measures w)
+        (ap (λ us. factors_text variable_text bases (filter is_factor us) ++ divisors_text variable_text bases (filter is_divisor us)) is ∙ ap (terms_text variable_text bases) (sym is)) parts

@@ -25,7 +25,7 @@ use Rattle.um_types.specs.UnitTokens.{unit_token, number, power_from}
 use Rattle.um_types.specs.UnitGrammar.{Spells, AllSpell, Several, Fits, ArePowers, rank}
 use Rattle.um_types.proofs.UnitCut.{unit_cut}
 use Rattle.um_measures.specs.UnitNames.{or_else, or_one, unless, unknown_in, unknown_among, unit_of, product_of, parts_fit, products_fit}
-use Rattle.um_show.specs.UnitText.{base_name, atom_text, factor_text, factors_text, divisors_text}
+use Rattle.um_show.specs.UnitText.{base_name, variable_text, atom_text, factor_text, factors_text, divisors_text}
 use Rattle.um_show.proofs.Chain.{fresh, full, raised, IsGoodName}
 use Rattle.um_read_back.proofs.Segments.{Segment, Then, segment_then, segment_as, segment_of, segment_none, segment_token, segment_blank, Skips, FirstToken}
 use Rattle.um_read_back.proofs.Tokens.{name_token, sign_token, PowerToken, power_token}
@@ -124,7 +124,7 @@ module _ (measures : List ℕ → Option PowerMap) (bases : List (List ℕ)) (n 
         is = unit;
       }
 
-  segment_factor : (t : Term) → IsBaseTerm n t → (g d : Bool) → Segment (factor_text bases t) (fresh g d) full (IsFactorOf t)
+  segment_factor : (t : Term) → IsBaseTerm n t → (g d : Bool) → Segment (factor_text variable_text bases t) (fresh g d) full (IsFactorOf t)
   segment_factor t h g d = go (nat_eq (nat_abs t.power) 1) refl where
     x : List ℕ
     x = base_name bases h.base
@@ -132,20 +132,20 @@ module _ (measures : List ℕ → Option PowerMap) (bases : List (List ℕ)) (n 
     named : Segment (base_name bases h.base) (fresh g d) full (FirstToken (kind.Name (base_name bases h.base)) g)
     named = segment_token (base_name bases h.base) (fresh g d) full (kind.Name (base_name bases h.base)) (name_token (base_name bases h.base) (fresh g d) (names h.base h.low) refl)
 
-    atom_is : base_name bases h.base ≡ atom_text bases t.atom
-    atom_is = ap (atom_text bases) (sym h.atom)
+    atom_is : base_name bases h.base ≡ atom_text variable_text bases t.atom
+    atom_is = ap (atom_text variable_text bases) (sym h.atom)
 
-    go : (b : Bool) → nat_eq (nat_abs t.power) 1 ≡ b → Segment (factor_text bases t) (fresh g d) full (IsFactorOf t)
+    go : (b : Bool) → nat_eq (nat_abs t.power) 1 ≡ b → Segment (factor_text variable_text bases t) (fresh g d) full (IsFactorOf t)
     go true e =
-        segment_of (base_name bases h.base) (factor_text bases t) (fresh g d) full (IsFactorOf t)
-        (atom_is ∙ sym (append-nil (atom_text bases t.atom)) ∙ ap (λ b. atom_text bases t.atom ++ cond b [] (codes "^" ++ decimal (nat_abs t.power))) (sym e))
+        segment_of (base_name bases h.base) (factor_text variable_text bases t) (fresh g d) full (IsFactorOf t)
+        (atom_is ∙ sym (append-nil (atom_text variable_text bases t.atom)) ∙ ap (λ b. atom_text variable_text bases t.atom ++ cond b [] (codes "^" ++ decimal (nat_abs t.power))) (sym e))
         (segment_as (base_name bases h.base) (fresh g d) full (FirstToken (kind.Name (base_name bases h.base)) g) (IsFactorOf t) (alone t h g (eqb-true (nat_abs t.power) 1 e)) named)
     go false e =
         let p = power_token (nat_abs t.power) h.small in
         let P = FirstToken (kind.Number p.value true p.one) true in
         let C = FirstToken (kind.Sign symbol.Caret) true in
-        segment_of (base_name bases h.base ++ (codes "^" ++ decimal (nat_abs t.power))) (factor_text bases t) (fresh g d) full (IsFactorOf t)
-        (ap (λ w. w ++ (codes "^" ++ decimal (nat_abs t.power))) atom_is ∙ ap (λ b. atom_text bases t.atom ++ cond b [] (codes "^" ++ decimal (nat_abs t.power))) (sym e))
+        segment_of (base_name bases h.base ++ (codes "^" ++ decimal (nat_abs t.power))) (factor_text variable_text bases t) (fresh g d) full (IsFactorOf t)
+        (ap (λ w. w ++ (codes "^" ++ decimal (nat_abs t.power))) atom_is ∙ ap (λ b. atom_text variable_text bases t.atom ++ cond b [] (codes "^" ++ decimal (nat_abs t.power))) (sym e))
         (
         segment_as (base_name bases h.base ++ (codes "^" ++ decimal (nat_abs t.power))) (fresh g d) full (Then (FirstToken (kind.Name (base_name bases h.base)) g) (Then C P)) (IsFactorOf t) (powered t h g p)
         (
@@ -204,14 +204,14 @@ module _ (measures : List ℕ → Option PowerMap) (bases : List (List ℕ)) (n 
       lower : (a b : ℕ) → a ≤ 2 → b ≤ 2 → max a b ≤ 2
       lower a b h k = omega (arith, h, k)
 
-  segment_more_factors : (ts : List Term) → AreBaseTerms n ts → Segment (flat_map (λ y. codes " " ++ factor_text bases y) ts) full full (AreFactorsOf ts)
+  segment_more_factors : (ts : List Term) → AreBaseTerms n ts → Segment (flat_map (λ y. codes " " ++ factor_text variable_text bases y) ts) full full (AreFactorsOf ts)
   segment_more_factors [] h = segment_as [] full full Skips (AreFactorsOf []) no_factors (segment_none full)
   segment_more_factors (t ∷ ts) h =
-      let others = flat_map (λ y. codes " " ++ factor_text bases y) ts in
-      segment_as (codes " " ++ (factor_text bases t ++ others)) full full (Then Skips (Then (IsFactorOf t) (AreFactorsOf ts))) (AreFactorsOf (t ∷ ts)) (behind_blank t ts)
+      let others = flat_map (λ y. codes " " ++ factor_text variable_text bases y) ts in
+      segment_as (codes " " ++ (factor_text variable_text bases t ++ others)) full full (Then Skips (Then (IsFactorOf t) (AreFactorsOf ts))) (AreFactorsOf (t ∷ ts)) (behind_blank t ts)
       (
-      segment_then (codes " ") (factor_text bases t ++ others) full (fresh false false) full Skips (Then (IsFactorOf t) (AreFactorsOf ts)) (segment_blank full refl)
-      (segment_then (factor_text bases t) others (fresh false false) full full (IsFactorOf t) (AreFactorsOf ts) (segment_factor t h.0 false false) (segment_more_factors ts h.1))
+      segment_then (codes " ") (factor_text variable_text bases t ++ others) full (fresh false false) full Skips (Then (IsFactorOf t) (AreFactorsOf ts)) (segment_blank full refl)
+      (segment_then (factor_text variable_text bases t) others (fresh false false) full full (IsFactorOf t) (AreFactorsOf ts) (segment_factor t h.0 false false) (segment_more_factors ts h.1))
       )
     where
       behind_blank : (t : Term) (ts : List Term) (tokens rest : List Token) → Then Skips (Then (IsFactorOf t) (AreFactorsOf ts)) tokens rest → AreFactorsOf (t ∷ ts) tokens rest
@@ -264,11 +264,11 @@ module _ (measures : List ℕ → Option PowerMap) (bases : List (List ℕ)) (n 
       is = λ x. all.is one (λ y. 0) one_none x ∙ ap pos (omega arith);
     }
 
-  segment_side : (t : Term) (ts : List Term) → AreBaseTerms n (t ∷ ts) → (g d : Bool) → Segment (factors_text bases (t ∷ ts)) (fresh g d) full (IsSideOf (t ∷ ts))
+  segment_side : (t : Term) (ts : List Term) → AreBaseTerms n (t ∷ ts) → (g d : Bool) → Segment (factors_text variable_text bases (t ∷ ts)) (fresh g d) full (IsSideOf (t ∷ ts))
   segment_side t ts h g d =
-      let others = flat_map (λ y. codes " " ++ factor_text bases y) ts in
-      segment_as (factor_text bases t ++ others) (fresh g d) full (Then (IsFactorOf t) (AreFactorsOf ts)) (IsSideOf (t ∷ ts)) (side_of t ts)
-      (segment_then (factor_text bases t) others (fresh g d) full full (IsFactorOf t) (AreFactorsOf ts) (segment_factor t h.0 g d) (segment_more_factors ts h.1))
+      let others = flat_map (λ y. codes " " ++ factor_text variable_text bases y) ts in
+      segment_as (factor_text variable_text bases t ++ others) (fresh g d) full (Then (IsFactorOf t) (AreFactorsOf ts)) (IsSideOf (t ∷ ts)) (side_of t ts)
+      (segment_then (factor_text variable_text bases t) others (fresh g d) full full (IsFactorOf t) (AreFactorsOf ts) (segment_factor t h.0 g d) (segment_more_factors ts h.1))
 
   -- ---- the unit
 
@@ -339,26 +339,26 @@ module _ (measures : List ℕ → Option PowerMap) (bases : List (List ℕ)) (n 
         lower a b h k = omega (arith, h, k)
 
     pub segment_parts : (fs ds : List Term) → AreBaseTerms n fs → AreBaseTerms n ds → Splits fs ds → Small fs → Small ds → (fs ≡ [] → ds ≡ [] → ⊥)
-        → Segment (factors_text bases fs ++ divisors_text bases ds) (fresh true false) full (IsUnitOf measures w)
+        → Segment (factors_text variable_text bases fs ++ divisors_text variable_text bases ds) (fresh true false) full (IsUnitOf measures w)
     segment_parts [] [] h k split small other some = absurd (some refl refl)
     segment_parts (f ∷ fs) [] h k split small other some =
-        segment_of (factors_text bases (f ∷ fs)) (factors_text bases (f ∷ fs) ++ []) (fresh true false) full (IsUnitOf measures w) (sym (append-nil (factors_text bases (f ∷ fs))))
-        (segment_as (factors_text bases (f ∷ fs)) (fresh true false) full (IsSideOf (f ∷ fs)) (IsUnitOf measures w) (factors_alone f fs split small) (segment_side f fs h true false))
+        segment_of (factors_text variable_text bases (f ∷ fs)) (factors_text variable_text bases (f ∷ fs) ++ []) (fresh true false) full (IsUnitOf measures w) (sym (append-nil (factors_text variable_text bases (f ∷ fs))))
+        (segment_as (factors_text variable_text bases (f ∷ fs)) (fresh true false) full (IsSideOf (f ∷ fs)) (IsUnitOf measures w) (factors_alone f fs split small) (segment_side f fs h true false))
     segment_parts [] (d ∷ ds) h k split small other some =
         let S = FirstToken (kind.Sign symbol.Slash) true in
-        segment_as (codes "/" ++ factors_text bases (d ∷ ds)) (fresh true false) full (Then S (IsSideOf (d ∷ ds))) (IsUnitOf measures w) (divisors_alone d ds split other true)
+        segment_as (codes "/" ++ factors_text variable_text bases (d ∷ ds)) (fresh true false) full (Then S (IsSideOf (d ∷ ds))) (IsUnitOf measures w) (divisors_alone d ds split other true)
         (
-        segment_then (codes "/") (factors_text bases (d ∷ ds)) (fresh true false) (fresh true true) full S (IsSideOf (d ∷ ds))
+        segment_then (codes "/") (factors_text variable_text bases (d ∷ ds)) (fresh true false) (fresh true true) full S (IsSideOf (d ∷ ds))
         (segment_token (codes "/") (fresh true false) (fresh true true) (kind.Sign symbol.Slash) (sign_token symbol.Slash (fresh true false) refl))
         (segment_side d ds k true true)
         )
     segment_parts (f ∷ fs) (d ∷ ds) h k split small other some =
         let S = FirstToken (kind.Sign symbol.Slash) true in
-        segment_as (factors_text bases (f ∷ fs) ++ (codes "/" ++ factors_text bases (d ∷ ds))) (fresh true false) full (Then (IsSideOf (f ∷ fs)) (Then S (IsSideOf (d ∷ ds)))) (IsUnitOf measures w) (both_sides f fs d ds split small other)
+        segment_as (factors_text variable_text bases (f ∷ fs) ++ (codes "/" ++ factors_text variable_text bases (d ∷ ds))) (fresh true false) full (Then (IsSideOf (f ∷ fs)) (Then S (IsSideOf (d ∷ ds)))) (IsUnitOf measures w) (both_sides f fs d ds split small other)
         (
-        segment_then (factors_text bases (f ∷ fs)) (codes "/" ++ factors_text bases (d ∷ ds)) (fresh true false) full full (IsSideOf (f ∷ fs)) (Then S (IsSideOf (d ∷ ds))) (segment_side f fs h true false)
+        segment_then (factors_text variable_text bases (f ∷ fs)) (codes "/" ++ factors_text variable_text bases (d ∷ ds)) (fresh true false) full full (IsSideOf (f ∷ fs)) (Then S (IsSideOf (d ∷ ds))) (segment_side f fs h true false)
         (
-        segment_then (codes "/") (factors_text bases (d ∷ ds)) full (fresh true true) full S (IsSideOf (d ∷ ds))
+        segment_then (codes "/") (factors_text variable_text bases (d ∷ ds)) full (fresh true true) full S (IsSideOf (d ∷ ds))
         (segment_token (codes "/") full (fresh true true) (kind.Sign symbol.Slash) (sign_token symbol.Slash full refl))
         (segment_side d ds k true true)
         )

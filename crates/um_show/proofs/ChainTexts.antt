@@ -1,5 +1,5 @@
 -- The text of a chain of pieces has tokens, and they are those of the pieces.
-use Rattle.std.proofs.Common.{◌≡◌, ℕ, zero, suc, ◌+◌, ◌-◌, ◌<◌, Bool, true, false, ◌==◌, ◌||◌, ◌&&◌, List, [], ◌∷◌, ◌++◌, length, Option, Some, None, refl, sym, ap, ◌∙◌, arith, lit<, length-append}
+use Rattle.std.proofs.Common.{◌≡◌, ℕ, zero, suc, ◌+◌, ◌-◌, ◌<◌, Bool, true, false, ◌==◌, ◌||◌, ◌&&◌, List, [], ◌∷◌, ◌++◌, length, Option, Some, None, refl, sym, ap, ◌∙◌, subst, arith, lit<, length-append}
 use Rattle.std.proofs.lemmas.Bool.{false≢true, eqb-true}
 use Rattle.std.proofs.lemmas.Bool.Decides.{nat_tests}
 use Rattle.std.proofs.lemmas.Str.{encodes-append, encode_ascii}
@@ -15,7 +15,9 @@ use Rattle.um_syntax.specs.Gap.{nothing, closed}
 use Rattle.um_syntax.specs.Lexeme.{text_of as lexeme_text, kind_of}
 use Rattle.um_syntax.specs.Lexing.{ends_at, is_glued, is_caret_kind, is_minus_kind, is_caret, is_minus, is_power_place, Lexes}
 use Rattle.um_show.specs.Pieces.{Piece, name, variable, number, digits, word, sign, hole, space, line_end, text_of}
+use Rattle.um_syntax.proofs.Places.{size_of-encodes}
 use Rattle.um_show.proofs.PieceTokens.{IsToken, PieceSpells, PiecesSpell}
+use Rattle.um_show.proofs.PlacedTokens.{Placed, as_placed}
 use Rattle.um_show.proofs.NextToken.{Entry, token_of, next_token, next_blank}
 use Rattle.um_show.proofs.Chain.{Place, fresh, full, raised, lowered, pointed, after, takes_blank, may, Good, Chain, Clear, is_behind, is_raised, is_power}
 use Rattle.um_show.proofs.SignRoles.{and_no}
@@ -33,6 +35,7 @@ pub record Lexed (s : Place) (ps : List Piece) (before : List Token) (at : ℕ) 
   pub flag : Bool
   pub lexes : Lexes before at cs tokens
   pub spelled : PiecesSpell ps (is_behind s) tokens flag []
+  pub placed : Placed ps (is_behind s) at tokens
 
 pub record Reads (s : Place) (ps : List Piece) : Type 0 where
   pub cs : List ℕ
@@ -118,6 +121,7 @@ token_lexed p s ps t r o before at m =
         here = as_piece p (is_behind s) (token ∷ l.tokens) (is_behind (after p s)) l.tokens t (record { token = token; kind = o.is; gap = m.glued; open_end = o.behind; first = refl });
         later = l.spelled;
       };
+      placed = as_placed p ps (is_behind s) at (token ∷ l.tokens) t (record { token = token; rest = l.tokens; first = refl; kind = o.is; gap = m.glued; start = refl; end = ap (λ n. at + n) (size_of-encodes (lexeme_text o.lexeme) ∙ ap length o.encoded); others = subst (λ b. Placed ps b token.end l.tokens) o.behind l.placed });
     }
 
 token_reads : (p : Piece) (s : Place) (ps : List Piece) → is_token p ≡ true → Good p → may s p ≡ true → Reads (after p s) ps → Reads s (p ∷ ps)
@@ -149,7 +153,7 @@ space_reads s ps b r = record {
   scalars = r.scalars;
   clear = blank_clear s b 32 refl refl (is_xid_continue-ascii 32 (lit< tt)) refl r.cs;
   lexed = λ before at m. let l = r.lexed before (at + 1) (blank_matches s before at b m) in
-      record { tokens = l.tokens; flag = l.flag; lexes = next_blank 32 refl refl before at r.cs l.tokens l.lexes; spelled = record { flag = false; next = l.tokens; here = record { blank_end = refl; none = refl }; later = l.spelled } };
+      record { tokens = l.tokens; flag = l.flag; lexes = next_blank 32 refl refl before at r.cs l.tokens l.lexes; spelled = record { flag = false; next = l.tokens; here = record { blank_end = refl; none = refl }; later = l.spelled }; placed = l.placed };
 }
 
 line_reads : (s : Place) (ps : List Piece) → takes_blank s ≡ true → Reads (fresh false false) ps → Reads s (line_end ∷ ps)
@@ -159,7 +163,7 @@ line_reads s ps b r = record {
   scalars = r.scalars;
   clear = blank_clear s b 10 refl refl (is_xid_continue-ascii 10 (lit< tt)) refl r.cs;
   lexed = λ before at m. let l = r.lexed before (at + 1) (blank_matches s before at b m) in
-      record { tokens = l.tokens; flag = l.flag; lexes = next_blank 10 refl refl before at r.cs l.tokens l.lexes; spelled = record { flag = false; next = l.tokens; here = record { blank_end = refl; none = refl }; later = l.spelled } };
+      record { tokens = l.tokens; flag = l.flag; lexes = next_blank 10 refl refl before at r.cs l.tokens l.lexes; spelled = record { flag = false; next = l.tokens; here = record { blank_end = refl; none = refl }; later = l.spelled }; placed = l.placed };
 }
 
 -- ---- all pieces
@@ -177,7 +181,7 @@ reads [] s t c = record {
   encoded = refl;
   scalars = refl;
   clear = clear_end s;
-  lexed = λ before at m. record { tokens = []; flag = is_behind s; lexes = closed nothing; spelled = record { same_flag = refl; same = refl } };
+  lexed = λ before at m. record { tokens = []; flag = is_behind s; lexes = closed nothing; spelled = record { same_flag = refl; same = refl }; placed = refl };
 }
 reads (name x ∷ ps) s t c = token_reads (name x) s ps refl c.0 c.1 (reads ps full t c.2)
 reads (variable x ∷ ps) s t c = token_reads (variable x) s ps refl c.0 c.1 (reads ps full t c.2)
@@ -198,8 +202,9 @@ pub record Begun (ps : List Piece) : Type 0 where
   pub flag : Bool
   pub lexes : Lexes [] 0 cs tokens
   pub spelled : PiecesSpell ps false tokens flag []
+  pub placed : Placed ps false 0 tokens
 
 pub chain_lexes : (ps : List Piece) (t : Place) → Chain (fresh false false) ps t → Begun ps
 chain_lexes ps t c =
     let r = reads ps (fresh false false) t c in let l = r.lexed [] 0 (record { glued = refl; power = refl; caret = refl }) in
-    record { cs = r.cs; encoded = r.encoded; scalars = r.scalars; tokens = l.tokens; flag = l.flag; lexes = l.lexes; spelled = l.spelled }
+    record { cs = r.cs; encoded = r.encoded; scalars = r.scalars; tokens = l.tokens; flag = l.flag; lexes = l.lexes; spelled = l.spelled; placed = l.placed }

@@ -13,6 +13,7 @@ pub mod Chain
 pub mod SignRoles
 pub mod Beginnings
 pub mod Opens
+pub mod PlacedTokens
 pub mod ChainTexts
 pub mod GoodTokens
 pub mod UnitLinks

@@ -11,6 +11,8 @@ use Rattle.um_units.specs.declared.Atom.{Atom}
 use Rattle.um_units.specs.declared.Atom.TheVariants.{Base, Var}
 use Rattle.um_units.specs.declared.Term.{Term}
 use Rattle.um_units.specs.PowerMap.{PowerMap}
+use Rattle.um_show.specs.declared.printed_unit.Variables.{Variables}
+use Rattle.um_show.specs.declared.printed_unit.Variables.TheVariants.{Letters, Named}
 
 -- ---- the order of atoms
 
@@ -50,17 +52,9 @@ ordered_terms bases (t ∷ ts) = with_term bases t (ordered_terms bases ts)
 abbrev pub variable_text : ℕ → List ℕ
 variable_text k = codes "'" ++ (97 + k % 26) ∷ (if nat_lt k 26 then [] else decimal (k / 26))
 
-abbrev pub atom_text : List (List ℕ) → Atom → List ℕ
-atom_text bases (Base k) = base_name bases k
-atom_text bases (Var k) = variable_text k
-
 -- the power, where it isn't 1
 abbrev pub exponent_text : ℕ → List ℕ
 exponent_text n = if nat_eq n 1 then [] else codes "^" ++ decimal n
-
--- an atom with its power, the sign dropped
-abbrev pub factor_text : List (List ℕ) → Term → List ℕ
-factor_text bases t = atom_text bases t.atom ++ exponent_text (nat_abs t.power)
 
 -- a factor has a power above 0, and a divisor one below it
 abbrev pub is_factor : Term → Bool
@@ -69,19 +63,38 @@ is_factor t = int_lt (pos 0) t.power
 abbrev pub is_divisor : Term → Bool
 is_divisor t = int_lt t.power (pos 0)
 
-abbrev pub factors_text : List (List ℕ) → List Term → List ℕ
-factors_text bases ts = join_by (factor_text bases) (codes " ") ts
+-- ---- if each variable has this text
+module _ (variable : ℕ → List ℕ) (bases : List (List ℕ)) where
+  abbrev pub atom_text : Atom → List ℕ
+  atom_text (Base k) = base_name bases k
+  atom_text (Var k) = variable k
 
--- the divisors stand behind one `/`
-abbrev pub divisors_text : List (List ℕ) → List Term → List ℕ
-divisors_text bases [] = []
-divisors_text bases (t ∷ ts) = codes "/" ++ factors_text bases (t ∷ ts)
+  -- an atom with its power, the sign dropped
+  abbrev pub factor_text : Term → List ℕ
+  factor_text t = atom_text t.atom ++ exponent_text (nat_abs t.power)
 
--- terms in the order of printing; `1` where there are none
-abbrev pub terms_text : List (List ℕ) → List Term → List ℕ
-terms_text bases [] = codes "1"
-terms_text bases (t ∷ ts) =
-    factors_text bases (filter is_factor (t ∷ ts)) ++ divisors_text bases (filter is_divisor (t ∷ ts))
+  abbrev pub factors_text : List Term → List ℕ
+  factors_text ts = join_by factor_text (codes " ") ts
 
+  -- the divisors stand behind one `/`
+  abbrev pub divisors_text : List Term → List ℕ
+  divisors_text [] = []
+  divisors_text (t ∷ ts) = codes "/" ++ factors_text (t ∷ ts)
+
+  -- terms in the order of printing; `1` where there are none
+  abbrev pub terms_text : List Term → List ℕ
+  terms_text [] = codes "1"
+  terms_text (t ∷ ts) =
+      factors_text (filter is_factor (t ∷ ts)) ++ divisors_text (filter is_divisor (t ∷ ts))
+
+  abbrev pub named_unit_text : PowerMap → List ℕ
+  named_unit_text u = terms_text (ordered_terms bases u.terms)
+
+-- with letters for variables
 abbrev pub unit_text : List (List ℕ) → PowerMap → List ℕ
-unit_text bases u = terms_text bases (ordered_terms bases u.terms)
+unit_text bases u = named_unit_text variable_text bases u
+
+-- how the code is told to print variables: by letters, or by these texts, in the order of their numbers
+abbrev pub variable_by : Variables → ℕ → List ℕ
+variable_by Letters k = variable_text k
+variable_by (Named texts) k = get_or texts.now k []
