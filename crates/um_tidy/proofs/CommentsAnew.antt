@@ -17,7 +17,7 @@ use Rattle.um_tidy.specs.Laws.{kinds, with_comment, comments_in, comments_from, 
 use Rattle.um_tidy.proofs.Encoded.{IsSome, some_bytes, lines_encodes, comment_encodes}
 use Rattle.um_tidy.proofs.GapComments.{inner_comments, last_comments, first_comments, only_comments}
 use Rattle.um_tidy.proofs.Anew.{kinds_more, gap_of, rest_of, moved, tokens_of, lexes_anew}
-use Rattle.um_tidy.proofs.TokensAnew.{cut_text, whole_of, first_token, all_of, whole_lexes, IsMarked, marked, LaidOut, laid_out}
+use Rattle.um_tidy.proofs.TokensAnew.{cut_text, whole_of, first_token, all_of, whole_lexes, marked, laid_out}
 
 -- ---- the bytes of comments
 

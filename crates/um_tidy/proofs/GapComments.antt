@@ -4,7 +4,7 @@ use Rattle.um_syntax.specs.Gap.{is_space, IsGap, nothing, space, comment, IsLast
 use Rattle.um_syntax.specs.LineColumn.{is_line_feed}
 use Rattle.um_tidy.specs.declared.gap.Above.{Above}
 use Rattle.um_tidy.specs.declared.gap.Above.TheVariants as above
-use Rattle.um_tidy.specs.Gaps.{in_front, lines, trimmed, spaces, indent, blank_line, comment_line, own_line, below, each_line, indentation, before_token, comment_after, line_end, first_gap, inner_lines, inner_gap, last_lines, last_gap, only_gap}
+use Rattle.um_tidy.specs.Gaps.{in_front, lines, trimmed, spaces, indent, comment_line, own_line, below, each_line, before_token, line_end, first_gap, inner_lines, inner_gap, last_lines, last_gap, only_gap}
 use Rattle.um_tidy.specs.Gaps.{comment as comment_of}
 use Rattle.um_tidy.specs.Laws.{with_comment, comments_in}
 use Rattle.um_tidy.proofs.Lines.{IsAny, lines_any}

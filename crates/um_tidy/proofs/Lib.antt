@@ -11,4 +11,5 @@ pub mod Anew
 pub mod TokensAnew
 pub mod CommentsAnew
 pub mod TidiedAgain
+pub mod GlueAnew
 mod Examples

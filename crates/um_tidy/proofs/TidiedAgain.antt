@@ -24,11 +24,11 @@ use Rattle.um_tidy.proofs.TokensAnew.{whole_of, first_token, all_of, whole_lexes
 
 -- ---- nothing stands between two tokens where nothing stood
 
-size_none : (cs : List ℕ) → size_of cs ≡ 0 → cs ≡ []
+pub size_none : (cs : List ℕ) → size_of cs ≡ 0 → cs ≡ []
 size_none [] e = refl
 size_none (c ∷ cs) e = let least = (len_utf8_bounds c).0 in absurd (omega (arith, e, least))
 
-blank_size : (xs : List ℕ) → BeginsBlank xs → size_of xs ≡ 0 → ⊥
+pub blank_size : (xs : List ℕ) → BeginsBlank xs → size_of xs ≡ 0 → ⊥
 blank_size xs b e =
     let least = (len_utf8_bounds b.first).0 in
     let size : size_of (b.first ∷ b.others) ≡ 0 = ap size_of (sym b.is) ∙ e in
@@ -40,7 +40,7 @@ last_is xs t =
     let at : length (xs ++ t ∷ []) - 1 ≡ length xs = omega (arith, n) in
     ap (slice_get (xs ++ t ∷ [])) at ∙ slice_get_read (xs ++ t ∷ []) (length (xs ++ t ∷ [])) (length xs) t refl (omega (arith, n)) (sym (get_or-append_seam xs t [] t))
 
-glued_is : (xs : List Token) (t : Token) (from : ℕ) → is_glued (xs ++ t ∷ []) from ≡ (t.end == from)
+pub glued_is : (xs : List Token) (t : Token) (from : ℕ) → is_glued (xs ++ t ∷ []) from ≡ (t.end == from)
 glued_is xs t from = ap (ends_at from) (last_is xs t)
 
 glue_again : (s : Stand) (t u v : Token) (at place : ℕ) (gap : List ℕ) (h : Bool) → NumberStands s t.kind → t.end ≡ at → v.end ≡ place → u.start ≡ at + size_of gap → u.glued ≡ (t.end == u.start) → h ≡ (v.end == place + size_of (gap_of s t u gap))

@@ -41,7 +41,7 @@ pub record IsCutAt (text : List ℕ) (a b c : ℕ) (gap lex more : List ℕ) : T
   pub place : length front ≡ c
 
 -- the part of a text that follows another
-part_at : (text pre part post : List ℕ) (a b : ℕ) → text ≡ pre ++ (part ++ post) → length pre ≡ a → b ≡ a + length part → slice_range text a b ≡ part
+pub part_at : (text pre part post : List ℕ) (a b : ℕ) → text ≡ pre ++ (part ++ post) → length pre ≡ a → b ≡ a + length part → slice_range text a b ≡ part
 part_at text pre part post a b whole place size =
     let rest : drop a text ≡ part ++ post = ap (drop a) whole ∙ ap (λ n. drop n (pre ++ (part ++ post))) (sym place) ∙ drop-append_seam pre (part ++ post) in
     let many : b - a ≡ length part = omega (arith, size) in
