@@ -1,0 +1,5 @@
+pub mod WordLists
+pub mod Standing
+pub mod Told
+pub mod Tries
+pub mod WordLaws

@@ -1,0 +1,91 @@
+-- What was tried decides which numbers and signs are told.
+use Rattle.std.proofs.Common.{◌≡◌, ◌&&◌, ◌||◌, not, Bool, true, false, Some, None, ℤ, refl, sym, subst, ◌∙◌}
+use Rattle.std.specs.Bool.{Decides}
+use Rattle.um_frac.specs.declared.number.Frac.{Frac}
+use Rattle.um_frac.specs.Fraction.{reduced}
+use Rattle.um_syntax.specs.declared.token.Kind.TheVariants as kind
+use Rattle.um_syntax.specs.declared.vocabulary.Symbol.{Symbol}
+use Rattle.um_expected.specs.declared.word.Word.TheVariants as word
+use Rattle.um_expected.specs.declared.tell.Tried.{Tried}
+use Rattle.um_expected.specs.Words.{is_operator}
+use Rattle.um_expected.specs.Expected.{Place, CanStand, NumberCanStand, IsPower, FractionCanStand, TwoCanStand}
+use Rattle.um_expected.specs.Expected.{OneCanStand, AllOperatorsStand, IsExpected}
+use Rattle.um_expected.specs.Trials.{IsTried, number_told, whole_told, one_told, told_alone}
+
+clash : false ≡ true → ⊥
+clash e = cc
+
+-- ---- a number by its value
+
+same_value : (x y : Frac) → Some x ≡ Some y → x ≡ y
+same_value x y e = cc
+
+pub number_stands : (p : Place) (n d : ℤ) (digits one : Bool) (value : Frac) (b : Bool) → reduced n d ≡ Some value
+    → Decides b (CanStand p (kind.Number value digits one)) → Decides b (NumberCanStand p n d digits one)
+number_stands p n d digits one value b e h = (
+  (λ t. (value, e, h.0 t)),
+  (λ s. h.1 (subst (λ v. CanStand p (kind.Number v digits one)) (same_value s.0 value (sym s.1 ∙ e)) s.2)),
+)
+
+no_value : (x : Frac) → None ≡ Some x → ⊥
+no_value x e = cc
+
+pub no_number : (p : Place) (n d : ℤ) (digits one : Bool) → reduced n d ≡ None → Decides false (NumberCanStand p n d digits one)
+no_number p n d digits one e = ((λ t. absurd (clash t)), (λ s. absurd (no_value s.0 (sym e ∙ s.1))))
+
+-- ---- by the answers to several tries
+
+module _ (P F W O : Type 0) where
+  number_by : (power fraction : Bool) → Decides power P → Decides fraction F
+      → Decides (not power && fraction) ((P → ⊥) × F)
+  number_by true fraction p f = ((λ e. absurd (clash e)), (λ x. absurd (x.0 (p.0 refl))))
+  number_by false true p f = ((λ e. ((λ x. clash (p.1 x)), f.0 refl)), (λ x. refl))
+  number_by false false p f = ((λ e. absurd (clash e)), (λ x. f.1 x.1))
+
+  whole_by : (power fraction two : Bool) → Decides power P → Decides fraction F → Decides two W
+      → Decides ((power || not fraction) && two) ((F → P) × W)
+  whole_by true fraction true p f w = ((λ e. ((λ x. p.0 refl), w.0 refl)), (λ x. refl))
+  whole_by true fraction false p f w = ((λ e. absurd (clash e)), (λ x. w.1 x.1))
+  whole_by false true two p f w = ((λ e. absurd (clash e)), (λ x. p.1 (x.0 (f.0 refl))))
+  whole_by false false true p f w = ((λ e. ((λ x. absurd (clash (f.1 x))), w.0 refl)), (λ x. refl))
+  whole_by false false false p f w = ((λ e. absurd (clash e)), (λ x. w.1 x.1))
+
+  one_by : (power fraction two one : Bool) → Decides power P → Decides fraction F → Decides two W → Decides one O
+      → Decides (not power && (not fraction && (not two && one))) ((P → ⊥) × (F → ⊥) × (W → ⊥) × O)
+  one_by true fraction two one p f w o = ((λ e. absurd (clash e)), (λ x. absurd (x.0 (p.0 refl))))
+  one_by false true two one p f w o = ((λ e. absurd (clash e)), (λ x. absurd (x.1 (f.0 refl))))
+  one_by false false true one p f w o = ((λ e. absurd (clash e)), (λ x. absurd (x.2 (w.0 refl))))
+  one_by false false false true p f w o =
+      ((λ e. ((λ x. clash (p.1 x)), (λ x. clash (f.1 x)), (λ x. clash (w.1 x)), o.0 refl)), (λ x. refl))
+  one_by false false false false p f w o = ((λ e. absurd (clash e)), (λ x. o.1 x.3))
+
+-- a sign that isn't one of the operators, or not all of them stand
+alone_by : (A S : Type 0) (all operator stands : Bool) → Decides all A → Decides stands S
+    → Decides (not (all && operator) && stands) ((A → operator ≡ false) × S)
+alone_by A S true true stands a s = ((λ e. absurd (clash e)), (λ x. absurd (clash (sym (x.0 (a.0 refl))))))
+alone_by A S true false true a s = ((λ e. ((λ y. refl), s.0 refl)), (λ x. refl))
+alone_by A S true false false a s = ((λ e. absurd (clash e)), (λ x. s.1 x.1))
+alone_by A S false operator true a s = ((λ e. ((λ y. absurd (clash (a.1 y))), s.0 refl)), (λ x. refl))
+alone_by A S false operator false a s = ((λ e. absurd (clash e)), (λ x. s.1 x.1))
+
+-- ---- the words
+
+module _ (p : Place) (t : Tried) (h : IsTried p t) where
+  power : Decides t.power (IsPower p)
+  power = ((λ e. sym h.power ∙ e), (λ e. h.power ∙ e))
+
+  pub number_is_told : Decides (number_told t) (IsExpected p word.Number)
+  number_is_told = number_by (IsPower p) (FractionCanStand p) (TwoCanStand p) (OneCanStand p) t.power t.fraction power h.fraction
+
+  pub whole_is_told : Decides (whole_told t) (IsExpected p word.Whole)
+  whole_is_told =
+      whole_by (IsPower p) (FractionCanStand p) (TwoCanStand p) (OneCanStand p) t.power t.fraction t.two power h.fraction h.two
+
+  pub one_is_told : Decides (one_told t) (IsExpected p word.One)
+  one_is_told =
+      one_by (IsPower p) (FractionCanStand p) (TwoCanStand p) (OneCanStand p) t.power t.fraction t.two t.one power h.fraction h.two h.one
+
+  pub sign_is_told : (s : Symbol) (stands : Bool) → Decides stands (CanStand p (kind.Sign s))
+      → Decides (told_alone t.operators (is_operator s) stands) (IsExpected p (word.Sign s))
+  sign_is_told s stands d =
+      alone_by (AllOperatorsStand p) (CanStand p (kind.Sign s)) t.operators (is_operator s) stands h.operators d
