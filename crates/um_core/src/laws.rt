@@ -1,0 +1,23 @@
+//! What a core comes to, as contracts of functions that do nothing.
+ghost use Rattle.um_core.specs.Laws.{
+  CoresAreSmallest,
+  CutCoresAreSolvable,
+  CoresAreUnique,
+  FirstUnsolvableEnds,
+  FirstUnsolvableEndsAlone,
+};
+
+/// A core that isn't cut off has no joint solution, and each smaller part of it has one. A core that is cut off has
+/// one. Rows have one core.
+pub fn cores()
+    ensures smallest { CoresAreSmallest }
+    ensures cut_off { CutCoresAreSolvable }
+    ensures unique { CoresAreUnique }
+{}
+
+/// Rows up to the first unsolvable one have a core, since they end with it. If they have no joint solution without the
+/// equations of unit parameters, they have a core without them.
+pub fn first_unsolvable()
+    ensures ends { FirstUnsolvableEnds }
+    ensures alone { FirstUnsolvableEndsAlone }
+{}

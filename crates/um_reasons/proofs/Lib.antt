@@ -1,0 +1,3 @@
+pub mod ReasonLaws
+pub mod OthersLeft
+mod Examples
