@@ -1,0 +1,8 @@
+use Rattle.std.proofs.Common.{◌≡◌, map, take}
+use Rattle.um_tree.specs.TypeTree.{type_tree}
+use Rattle.um_tree.specs.Shapes.{type_shape}
+use Rattle.um_mismatch.specs.FlatShapes.{flat_shapes}
+use Rattle.um_mismatch.proofs.functions.shapes_of_fields.Given as goal
+
+abbrev pub invariant-loop-i : goal.invariant-loop-i
+invariant-loop-i l = flat_shapes l.shapes.items ≡ map (λ f. type_shape (type_tree f.ty)) (take l.i l.fields)

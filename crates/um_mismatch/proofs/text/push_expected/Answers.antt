@@ -1,0 +1,11 @@
+use Rattle.std.proofs.Common.{◌++◌, codes}
+use Rattle.um_tree.specs.ProgramTree.{program_tree}
+use Rattle.um_mismatch.specs.Mismatch.{kind_text}
+use Rattle.um_mismatch.proofs.AddedTexts.{added, added_last}
+use Rattle.um_mismatch.proofs.text.push_expected.Goals as goal
+
+pub returns : goal.returns
+returns c =
+    let told = kind_text (program_tree c.args.program.now) c.args.kind in
+    let first = added _ _ _ (codes "  expected: ") told c.in_ok-extend_from_slice.ensures.items c.in_ok-push_kind.ensures in
+    added_last c.extend_from_slice-2.result _ _ _ (codes "  expected: " ++ told) (codes "\n") first c.extend_from_slice-2.ensures.items

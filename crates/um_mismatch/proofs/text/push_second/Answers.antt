@@ -1,0 +1,16 @@
+use Rattle.std.proofs.Common.{◌++◌, codes}
+use Rattle.um_tree.specs.ProgramTree.{program_tree}
+use Rattle.um_agree.specs.Wording.{second_word}
+use Rattle.um_mismatch.specs.Mismatch.{shape_text}
+use Rattle.um_mismatch.specs.FlatShapes.{flat_shape}
+use Rattle.um_mismatch.proofs.AddedTexts.{added, added_last}
+use Rattle.um_mismatch.proofs.text.push_second.Goals as goal
+
+pub returns : goal.returns
+returns c =
+    let word = second_word c.args.rule in
+    let told = shape_text (program_tree c.args.program.now) (flat_shape c.args.t) in
+    let worded = added _ _ _ (codes "  ") word c.in_ok-extend_from_slice.ensures.items c.in_ok-push_second_word.ensures in
+    let begun = added _ _ _ (codes "  " ++ word) (codes ": ") worded c.in_ok-extend_from_slice-2.ensures.items in
+    let shaped = added _ _ _ (codes "  " ++ word ++ codes ": ") told begun c.in_ok-push_shape.ensures in
+    added_last c.extend_from_slice-3.result _ _ _ (codes "  " ++ word ++ codes ": " ++ told) (codes "\n") shaped c.extend_from_slice-3.ensures.items
