@@ -41,8 +41,8 @@ struct Head {
     bases: u32,
 }
 
-/// The types of all nodes of the body of function `i`, in the order of the text, given the schemes that `infer` gave for
-/// the program.
+/// The types of all nodes of the body of function `i`, in the order of the text, given the schemes that `infer` gave
+/// for the program.
 ///
 /// They are formed over slots, the solution of all rows is put in, unit parameters become variables, and variables are
 /// numbered by their first occurrence in one list: the parameters, the result, and then the nodes (Kennedy 1996; the

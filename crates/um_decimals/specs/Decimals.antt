@@ -1,6 +1,7 @@
 -- A fraction as a decimal number: the nearest number of so many digits after the point.
 -- Source: IEEE 754-2019, 4.3.1 (roundTiesToEven); the mark of a number that isn't the fraction is this project's own.
-use Rattle.std.specs.Prelude.{ℕ, pos, ◌+◌, ◌-◌, ◌*◌, ◌/◌, ◌%◌, ◌^◌, ◌==◌, nat_lt, int_lt, Bool, not, ◌&&◌, cond, if◌then◌else◌}
+use Rattle.std.specs.Prelude.{ℕ, pos, ◌+◌, ◌-◌, ◌*◌, ◌/◌, ◌%◌, ◌^◌, ◌==◌, nat_lt, int_lt, Bool, not, ◌&&◌}
+use Rattle.std.specs.Prelude.{cond, if◌then◌else◌}
 use Rattle.std.specs.Prelude.{List, [], ◌++◌, length, replicate, codes, unsigned_abs}
 use Rattle.std.specs.Fmt.{decimal}
 use Rattle.um_frac.specs.declared.number.Frac.{Frac}

@@ -5,8 +5,8 @@ use Rattle.um_frac.specs.Fraction.{numerator, denominator, signed}
 use Rattle.um_decimals.specs.Decimals.{nearest, scaled_size, last_digits, is_exact, is_below_zero}
 use Rattle.std.specs.Prelude.{unsigned_abs}
 
--- The whole number m differs from n / d by at most a half, and if it differs by a half it is even: |m - n / d| <= 1 / 2,
--- with both sides twice d times as large.
+-- The whole number m differs from n / d by at most a half, and if it differs by a half it is even: |m - n / d| <= 1 /
+-- 2, with both sides twice d times as large.
 pub record IsNearest (n d m : ℕ) : Type 0 where
   pub above : 2 * (m * d) ≤ 2 * n + d
   pub below : 2 * n ≤ 2 * (m * d) + d

@@ -7,8 +7,8 @@ pub fn nearest_numbers()
     ensures one { OneIsNearest }
 {}
 
-/// A decimal number differs from its fraction by at most half a unit of its last digit, and `~` stands before it exactly
-/// if the two differ.
+/// A decimal number differs from its fraction by at most half a unit of its last digit, and `~` stands before it
+/// exactly if the two differ.
 pub fn decimals()
     ensures nearest { DecimalIsNearest }
     ensures marked { ExactlyTheFraction }

@@ -1,5 +1,5 @@
--- The answer to `show DIGITS UNITS BUDGET NAME ARG*`: the call, with the numbers of its value as decimals in the units of
--- the word.
+-- The answer to `show DIGITS UNITS BUDGET NAME ARG*`: the call, with the numbers of its value as decimals in the units
+-- of the word.
 -- Source: this project's own.
 use Rattle.std.specs.Prelude.{ℕ, ◌≡◌, IsTrue, List, codes, Some, Result, Ok, Err}
 use Rattle.um_tree.specs.TypeTree.{TypeTree}

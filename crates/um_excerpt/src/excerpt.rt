@@ -13,8 +13,8 @@ use um_syntax::line_column;
 /// Adds the two lines that show a place of a text, a byte offset: the number of its line, ` | ` and the line; and under
 /// it ` | ` and a caret below the place.
 ///
-/// Of a long line a window of 120 characters is shown, from 80 before the place on. A control character other than a tab
-/// is shown as U+FFFD. The form is this project's own. Want of memory is the one error.
+/// Of a long line a window of 120 characters is shown, from 80 before the place on. A control character other than a
+/// tab is shown as U+FFFD. The form is this project's own. Want of memory is the one error.
 pub fn push_excerpt(
     alloc: Global,
     text: &mut Vec<u8>,

@@ -5,7 +5,8 @@ ghost use Rattle.um_excerpt.specs.SourceLine.{first_line, line_before, without_r
 
 use std::alloc::{AllocError, Global};
 
-/// The characters of the text since its last line feed, without a byte order mark, U+FEFF, that the text may begin with.
+/// The characters of the text since its last line feed, without a byte order mark, U+FEFF, that the text may begin
+/// with.
 pub fn line_before(alloc: Global, text: &str) -> Result<Vec<char>, AllocError>
     ensures { IfOk result (λ line. line.items ≡ line_before (chars text.now)) }
 {

@@ -1,10 +1,10 @@
-mod Excluded
+pub mod Excluded
 mod RefusedOnce
 pub mod RefusalStatuses
 pub mod CheckedTexts
 pub mod StageLaws
 pub mod TooLongTexts
-mod ShapePlaces
-mod RowPlaces
+pub mod ShapePlaces
+pub mod RowPlaces
 mod RefusalPlaces
 mod WordPlaces

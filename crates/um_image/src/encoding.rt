@@ -7,8 +7,8 @@ ghost use Rattle.um_tree.specs.ProgramTree.{field_tree, record_tree};
 ghost use Rattle.um_tree.specs.Shapes.{type_shape};
 ghost use Rattle.um_machine.specs.declared.table.Operand.TheVariants.{Num};
 ghost use Rattle.um_verify.specs.ImageTree.{head_tree, image_tree, IsPlainField, IsPlainRecord, IsPlainHead, HasForm};
-ghost use Rattle.um_image.specs.Encoding.{four_bytes, long_bytes, op_number, operand_bytes, function_parts, image_bytes};
-ghost use Rattle.um_image.specs.Encoding.{image_parts};
+ghost use Rattle.um_image.specs.Encoding.{four_bytes, long_bytes, op_number, operand_bytes, function_parts};
+ghost use Rattle.um_image.specs.Encoding.{image_bytes, image_parts};
 ghost use Rattle.um_image.specs.Places.{ShapeFits, FieldFits, RecordFits, OperandFits, OpFits, FunctionFits, PartsFit};
 ghost use Rattle.um_image.specs.Places.{IsWritable};
 ghost use Rattle.um_image.specs.Pieces.{name_bytes, shape_bytes, field_bytes, record_bytes, op_bytes};
@@ -27,8 +27,8 @@ use um_verify::{Head, Image};
 /// 3 and its number for a record. An instruction is its number, and its operands. Numbers have four bytes, the most
 /// significant first; a fraction has two of eight, and a truth value is a byte.
 ///
-/// Each number of the image fits its bytes, so that `decode` gives back the image. `NoMemory` is its one error. The form
-/// is this project's own.
+/// Each number of the image fits its bytes, so that `decode` gives back the image. `NoMemory` is its one error. The
+/// form is this project's own.
 pub fn encode(alloc: Global, image: &Image) -> Result<Vec<u8>, NoMemory>
     requires form { HasForm (image_tree image.now) }
     ensures bytes { IfOk result (λ bytes. bytes.items ≡ image_bytes (image_tree image.now)) }

@@ -136,11 +136,11 @@ impl Order {
 /// The order that the words name, or nothing if they have none of the forms. Takes no memory.
 ///
 /// The forms are `types`, `annot`, `code`, `fmt`, `tidy`, `prove`, `image`, `big N`, `rescale SIZES`, `calls BUDGET`,
-/// `conform NAME TYPE`, `twin BUDGET SIZES NAME ARG*`, `show DIGITS UNITS BUDGET NAME ARG*`, and `run`, `steps`, `eval`,
-/// `trace` or `exec` with BUDGET NAME ARG*. A budget is one to eight digits of value at most 10,000,000, N is one to
-/// four digits of value 1 to 2,000, DIGITS is one or two digits of value at most 18, SIZES states sizes of base units
-/// (`um_sizes::is_scales` says how), and each word is at most 1,048,576 bytes long. UNITS is any word here: whether it
-/// states units (`um_display::is_units`) is asked before anything is read.
+/// `conform NAME TYPE`, `twin BUDGET SIZES NAME ARG*`, `show DIGITS UNITS BUDGET NAME ARG*`, and `run`, `steps`,
+/// `eval`, `trace` or `exec` with BUDGET NAME ARG*. A budget is one to eight digits of value at most 10,000,000, N is
+/// one to four digits of value 1 to 2,000, DIGITS is one or two digits of value at most 18, SIZES states sizes of base
+/// units (`um_sizes::is_scales` says how), and each word is at most 1,048,576 bytes long. UNITS is any word here:
+/// whether it states units (`um_display::is_units`) is asked before anything is read.
 pub fn order_of(words: &Words) -> Option<Order>
     ensures { result ≡ order_named words.now }
 {

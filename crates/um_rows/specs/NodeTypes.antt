@@ -1,5 +1,5 @@
--- The types of the nodes of a function's body over its slots, with their places. Each node comes after its parts, as the
--- rules are followed.
+-- The types of the nodes of a function's body over its slots, with their places. Each node comes after its parts, as
+-- the rules are followed.
 -- Source: Kennedy (1996), the inference of units: each node has the type that its rule gives.
 use Rattle.std.specs.Prelude.{◌≡◌, ℕ, List, [], ◌∷◌, map, Some, slice_get}
 use Rattle.um_units.specs.PowerMap.{PowerMap}
@@ -38,7 +38,8 @@ abbrev pub derived_nodes : Derived → List TypedNode
 derived_nodes d = nodes_of d.steps
 
 -- the derivation of a body. holes: the unit of each hole. names: the unit of each named variable
-abbrev pub derived_body : (ℕ → PowerMap) → (ℕ → PowerMap) → List RecordTree → List SchemeTree → ℕ → FunctionTree → Derived
+abbrev pub derived_body :
+    (ℕ → PowerMap) → (ℕ → PowerMap) → List RecordTree → List SchemeTree → ℕ → FunctionTree → Derived
 derived_body holes names records schemes i f =
     derive holes names records (own_signature holes names f) (callee schemes i f) (head_holes f)
     (noted_types holes names 0 f.params) f.body

@@ -33,8 +33,8 @@ fn item_of(alloc: Global, list: &Ty) -> Result<Ty, AllocError>
     }
 }
 
-/// The type of the expression over slots. Its rows are pushed, and its holes are counted. If the walk keeps the types of
-/// nodes, those of the parts and the expression's own are kept.
+/// The type of the expression over slots. Its rows are pushed, and its holes are counted. If the walk keeps the types
+/// of nodes, those of the parts and the expression's own are kept.
 ///
 /// If there is a type the scope is as before.
 #[cycle(walk)]

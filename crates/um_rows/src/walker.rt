@@ -8,8 +8,8 @@ use std::alloc::Global;
 use um_slots::Context;
 use um_tree::{Record, Scheme};
 
-/// The records of the program, the schemes of the functions before this one, and what is known of it. `keep` asks for the
-/// types of all nodes.
+/// The records of the program, the schemes of the functions before this one, and what is known of it. `keep` asks for
+/// the types of all nodes.
 #[derive(Drop)]
 pub(crate) struct Walk<'a> {
     pub(crate) alloc: Global,

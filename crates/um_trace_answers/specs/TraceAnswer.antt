@@ -1,5 +1,5 @@
--- The answer to `trace BUDGET NAME ARG*`: that of `run`; and if the call stops, where. That is what was asked for, so the
--- answer is done then.
+-- The answer to `trace BUDGET NAME ARG*`: that of `run`; and if the call stops, where. That is what was asked for, so
+-- the answer is done then.
 -- Source: this project's own.
 use Rattle.std.specs.Prelude.{ℕ, zero, suc, ◌≡◌, List, Some, None}
 use Rattle.um_tree.specs.ValueTree.{OutcomeTree, value_outcome, trap_outcome, budget_outcome}
