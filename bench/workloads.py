@@ -28,16 +28,30 @@ def zeros(slots):
     return "let zeros = [%s]\n" % "; ".join(["0<_>"] * slots)
 
 
-def chain(records):
-    """One function with four slots a record, whose equations each change all slots that were solved before."""
+def open_records(records):
+    """Records of four open units: their declarations, the `let`s of a body, and their slots in order."""
     units = ["p", "q", "r", "s"]
     text = "type R<%s> = { %s }\n" % (
         ", ".join("[<Measure>] '" + unit for unit in units), "; ".join("%s: num<'%s>" % (unit, unit) for unit in units))
     text += "let open = { %s }\n" % "; ".join(unit + " = 0<_>" for unit in units)
     slots = ["r%d.%s" % (record, unit) for record in range(records) for unit in units]
-    lets = "".join("let r%d = open in " % record for record in range(records))
+    return text, "".join("let r%d = open in " % record for record in range(records)), slots
+
+
+def chain(records):
+    """One function with four slots a record, whose equations each change all slots that were solved before."""
+    text, lets, slots = open_records(records)
     equations = "; ".join("%s < %s" % pair for pair in reversed(list(zip(slots, slots[1:]))))
     return text + "let chain = %s[%s]\n" % (lets, equations)
+
+
+def unlike(records):
+    """The same, whose first slot is a metre and whose last is a second, so that all equations disagree together."""
+    text, lets, slots = open_records(records)
+    measures = "[<Measure>] type metre\n[<Measure>] type second\n"
+    ends = [slots[0] + " < 1<metre>"], [slots[-1] + " < 1<second>"]
+    equations = "; ".join(ends[0] + ["%s < %s" % pair for pair in zip(slots, slots[1:])] + ends[1])
+    return measures + text + "let unlike = %s[%s]\n" % (lets, equations)
 
 
 def small(functions):
@@ -64,6 +78,16 @@ def wide(functions):
         text += "type R%d<%s> = { %s }\n" % (number, ", ".join("[<Measure>] '" + unit for unit in units), declared)
         text += "let w%d %s = { %s }\n" % (number, parameters, parts)
     return text
+
+
+def small_and_fault(functions):
+    """Many functions of one line, and a last one that adds a metre to a number without a unit."""
+    return small(functions - 1) + "let last (x: num<m>) = f0 x + x\n"
+
+
+def sums_and_fault(functions):
+    """`sums` with a bracket too many at the end."""
+    return sums(functions) + ")\n"
 
 
 def sums(functions):
@@ -183,6 +207,10 @@ WORKLOADS = [
     Workload("a list built and walked", "run 10000000 walk {}", walks, (50000, 200000),
              (Rival("lua {file} {size}", ".lua", lua_walks),)),
     Workload("literals with written units", "rescale m=100", readings, (550, 2000)),
+    Workload("copies of a model", "explain", copies, (82, 330)),
+    Workload("small functions, a fault in the last", "explain", small_and_fault, (500, 2000)),
+    Workload("seventeen of 1,561 equations", "explain", unlike, (97, 390)),
+    Workload("sums and products, a fault at the end", "explain", sums_and_fault, (475, 1900)),
     Workload("copies of a model", "prove", copies, (82, 330)),
     Workload("small functions", "prove", small, (500, 2000)),
     Workload("functions of 25 products", "prove", products, (475, 1900)),

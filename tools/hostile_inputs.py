@@ -138,6 +138,40 @@ def many_calls() -> bytes:
     return front + b"k\n" * ((IMAGE - len(front)) // 2)
 
 
+# ---- refusals
+
+def late_shape(items: int) -> bytes:
+    """A list whose last item has another shape."""
+    return f"let k = [{'1; ' * items}true]\n".encode()
+
+
+def near_names(count: int, length: int) -> bytes:
+    """Names of this length that are at two edits from one that isn't known."""
+    common = "k" * (length - 6)
+    lines = "".join(PLAIN.format(f"{common}{number:05}m") for number in range(count))
+    return f"{lines}let f (x: num<{common}00000xx>) = x\n".encode()
+
+
+LONG = "k" * (1 << 19)
+
+
+def refused() -> Iterator[Case]:
+    """Texts that take long to explain."""
+    workloads = script(ROOT / "bench" / "workloads.py")
+    made: list[tuple[str, Callable[[], bytes]]] = [
+        ("1 MiB of numbers, and a bracket too many", lambda: filled("let k = [1", "; 1", ")")),
+        ("1 MiB of measures, and a bracket too many", lambda: filled("", "[<Measure>] type m\n", ")")),
+                ("a line of 1 MiB", lambda: filled("let k =", " ", "@")),
+        ("1 MiB of tabs before the place", lambda: filled("", "\t", "@")),
+        ("a name of 512 KiB that is nearly known", lambda: f"let {LONG} = 1\nlet j = {LONG[:-64]}\n".encode()),
+        ("2,000 names that are nearly known", lambda: near_names(2000, 480)),
+        ("a list of 19,000 items, the last of another shape", lambda: late_shape(19_000)),
+        ("seventeen of 1,561 equations", lambda: workloads.unlike(390).encode()),
+    ]
+    for title, make in made:
+        yield Case("refusals", title, ["explain"], make)
+
+
 LOOP = b"let rec loop (n: num) : num = loop n\nlet rec deep (n: num) : num = 1 + deep n\n"
 BUDGET = "10000000"
 
@@ -178,3 +212,4 @@ def cases() -> Iterator[Case]:
     for token in TOKENS:
         yield Case("tokens", f"1 MiB of {token!r}", ["types"], lambda t=token: filled("let k = ", f"{t} "))
     yield Case("calls", "16 MiB of calls", ["calls", "1"], many_calls)
+    yield from refused()
