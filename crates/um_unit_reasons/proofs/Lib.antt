@@ -1,0 +1,11 @@
+pub mod LoopSteps
+pub mod NameSteps
+pub mod NamedSteps
+pub mod RowSteps
+pub mod OtherSteps
+pub mod TellingSteps
+pub mod FailingSteps
+pub mod SlotFacts
+pub mod FunctionFacts
+pub mod UniqueReasons
+mod Examples

@@ -1,0 +1,6 @@
+-- What a reader must trust: the names and the letters of variables, the texts of types, and what is told.
+pub mod VariableNames
+pub mod TypeTexts
+pub mod UnitReasons
+-- What mirrors the code: what is found on the way.
+pub mod Answers
