@@ -1,0 +1,6 @@
+pub mod StopPlaces
+pub mod Adding
+pub mod UniqueRest
+pub mod ExplainAnswers
+pub mod ShortTexts
+mod Following

@@ -1,0 +1,15 @@
+//! The answer to `explain`: why a text is refused.
+//!
+//! ```
+//! let reply = answer_explain(alloc, text)?; // as `types`; of a refusal its line, the source line and what is wrong
+//! ```
+#![tactic(auto)]
+
+mod answer;
+pub mod laws;
+mod names;
+mod place;
+mod schemes;
+mod tokens;
+
+pub use answer::answer_explain;
