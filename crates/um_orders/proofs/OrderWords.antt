@@ -11,7 +11,7 @@ use Rattle.std.proofs.lemmas.Slice.Eq.{bytes_eq-Decides}
 use Rattle.std.proofs.lemmas.List.Elements.{All-nil, All-cons}
 use Rattle.um_sizes.specs.ScaleWords.{is_scales}
 use Rattle.um_orders.specs.declared.order.Order.{Order}
-use Rattle.um_orders.specs.declared.order.Order.TheVariants.{Types, Annot, Code, Fmt, Tidy, Run, Steps, Eval, Trace, Show, Conform, Rescale, Twin, Big, Prove, Image, Exec, Calls}
+use Rattle.um_orders.specs.declared.order.Order.TheVariants.{Types, Explain, Annot, Code, Fmt, Tidy, Run, Steps, Eval, Trace, Show, Conform, Rescale, Twin, Big, Prove, Image, Exec, Calls}
 use Rattle.um_orders.specs.declared.order.Intake.TheVariants.{Generated, Text, Bytes}
 use Rattle.um_orders.specs.declared.order.BytesOrder.{BytesOrder}
 use Rattle.um_orders.specs.declared.order.BytesOrder.TheVariants as bytes
@@ -146,16 +146,17 @@ AreWordsOf words (Calls b) = b ≤ 10000000
 AreWordsOf words order = Unit {0}
 
 words_alone : (word : List ℕ) (o : Order) → order_alone word ≡ Some o → AreWordsOf (word ∷ []) o
-words_alone word o e = by (bytes_eq word (codes "types")) (bytes_eq word (codes "annot")) (bytes_eq word (codes "code")) (bytes_eq word (codes "fmt")) (bytes_eq word (codes "tidy")) (bytes_eq word (codes "prove")) (bytes_eq word (codes "image")) e where
-  by : (s a t u x v w : Bool) → (if s then Some Types else if a then Some Annot else if t then Some Code else if u then Some Fmt else if x then Some Tidy else if v then Some Prove else if w then Some Image else None) ≡ Some o → AreWordsOf (word ∷ []) o
-  by true a t u x v w named = let same : Types ≡ o = cc named in subst (AreWordsOf (word ∷ [])) same tt
-  by false true t u x v w named = let same : Annot ≡ o = cc named in subst (AreWordsOf (word ∷ [])) same tt
-  by false false true u x v w named = let same : Code ≡ o = cc named in subst (AreWordsOf (word ∷ [])) same tt
-  by false false false true x v w named = let same : Fmt ≡ o = cc named in subst (AreWordsOf (word ∷ [])) same tt
-  by false false false false true v w named = let same : Tidy ≡ o = cc named in subst (AreWordsOf (word ∷ [])) same tt
-  by false false false false false true w named = let same : Prove ≡ o = cc named in subst (AreWordsOf (word ∷ [])) same tt
-  by false false false false false false true named = let same : Image ≡ o = cc named in subst (AreWordsOf (word ∷ [])) same tt
-  by false false false false false false false named = absurd (cc named)
+words_alone word o e = by (bytes_eq word (codes "types")) (bytes_eq word (codes "explain")) (bytes_eq word (codes "annot")) (bytes_eq word (codes "code")) (bytes_eq word (codes "fmt")) (bytes_eq word (codes "tidy")) (bytes_eq word (codes "prove")) (bytes_eq word (codes "image")) e where
+  by : (s r a t u x v w : Bool) → (if s then Some Types else if r then Some Explain else if a then Some Annot else if t then Some Code else if u then Some Fmt else if x then Some Tidy else if v then Some Prove else if w then Some Image else None) ≡ Some o → AreWordsOf (word ∷ []) o
+  by true r a t u x v w named = let same : Types ≡ o = cc named in subst (AreWordsOf (word ∷ [])) same tt
+  by false true a t u x v w named = let same : Explain ≡ o = cc named in subst (AreWordsOf (word ∷ [])) same tt
+  by false false true t u x v w named = let same : Annot ≡ o = cc named in subst (AreWordsOf (word ∷ [])) same tt
+  by false false false true u x v w named = let same : Code ≡ o = cc named in subst (AreWordsOf (word ∷ [])) same tt
+  by false false false false true x v w named = let same : Fmt ≡ o = cc named in subst (AreWordsOf (word ∷ [])) same tt
+  by false false false false false true v w named = let same : Tidy ≡ o = cc named in subst (AreWordsOf (word ∷ [])) same tt
+  by false false false false false false true w named = let same : Prove ≡ o = cc named in subst (AreWordsOf (word ∷ [])) same tt
+  by false false false false false false false true named = let same : Image ≡ o = cc named in subst (AreWordsOf (word ∷ [])) same tt
+  by false false false false false false false false named = absurd (cc named)
 
 words_of_two : (word second : List ℕ) (o : Order) → order_of_two word second ≡ Some o → AreWordsOf (word ∷ second ∷ []) o
 words_of_two word second o e = by (bytes_eq word (codes "big")) (count_of second) refl (bytes_eq word (codes "rescale")) (is_scales second) refl (bytes_eq word (codes "calls")) (budget_of second) refl e where
@@ -230,6 +231,7 @@ words_of_order words o e = words_by_count words o (named_by_count words o e).1
 
 pub order_of_text : (o : Order) (t : TextOrder) → intake_of o ≡ Text t → o ≡ order_about t
 order_of_text Types t takes = let same : text.Types ≡ t = cc takes in ap order_about same
+order_of_text Explain t takes = let same : text.Explain ≡ t = cc takes in ap order_about same
 order_of_text Annot t takes = let same : text.Annot ≡ t = cc takes in ap order_about same
 order_of_text Code t takes = let same : text.Code ≡ t = cc takes in ap order_about same
 order_of_text Fmt t takes = let same : text.Fmt ≡ t = cc takes in ap order_about same
@@ -251,6 +253,7 @@ order_of_text (Calls b) t takes = absurd (cc takes)
 pub order_of_generated : (o : Order) (n : ℕ) → intake_of o ≡ Generated n → o ≡ Big n
 order_of_generated (Big k) n takes = let same : k ≡ n = cc takes in ap Big same
 order_of_generated Types n takes = absurd (cc takes)
+order_of_generated Explain n takes = absurd (cc takes)
 order_of_generated Annot n takes = absurd (cc takes)
 order_of_generated Code n takes = absurd (cc takes)
 order_of_generated Fmt n takes = absurd (cc takes)
@@ -272,6 +275,7 @@ pub order_of_bytes : (o : Order) (b : BytesOrder) → intake_of o ≡ Bytes b �
 order_of_bytes (Exec n) b takes = let same : bytes.Exec n ≡ b = cc takes in ap order_about_bytes same
 order_of_bytes (Calls n) b takes = let same : bytes.Calls n ≡ b = cc takes in ap order_about_bytes same
 order_of_bytes Types b takes = absurd (cc takes)
+order_of_bytes Explain b takes = absurd (cc takes)
 order_of_bytes Annot b takes = absurd (cc takes)
 order_of_bytes Code b takes = absurd (cc takes)
 order_of_bytes Fmt b takes = absurd (cc takes)

@@ -8,8 +8,8 @@ use Rattle.std.specs.Str.{bytes_eq}
 use Rattle.std.specs.Str.Parse.{digits_value}
 use Rattle.um_sizes.specs.ScaleWords.{is_scales}
 use Rattle.um_orders.specs.declared.order.Order.{Order}
-use Rattle.um_orders.specs.declared.order.Order.TheVariants.{Types, Annot, Code, Fmt, Tidy, Run, Steps, Eval, Trace}
-use Rattle.um_orders.specs.declared.order.Order.TheVariants.{Show, Conform, Rescale, Twin}
+use Rattle.um_orders.specs.declared.order.Order.TheVariants.{Types, Explain, Annot, Code, Fmt, Tidy, Run, Steps, Eval}
+use Rattle.um_orders.specs.declared.order.Order.TheVariants.{Trace, Show, Conform, Rescale, Twin}
 use Rattle.um_orders.specs.declared.order.Order.TheVariants.{Big, Prove, Image, Exec, Calls}
 use Rattle.um_orders.specs.declared.order.Intake.{Intake}
 use Rattle.um_orders.specs.declared.order.Intake.TheVariants.{Generated, Text, Bytes}
@@ -54,6 +54,7 @@ digits_of word = if are_few_digits word && states_digits word then Some (digits_
 abbrev pub order_alone : List ℕ → Option Order
 order_alone word =
     if bytes_eq word (codes "types") then Some Types
+    else if bytes_eq word (codes "explain") then Some Explain
     else if bytes_eq word (codes "annot") then Some Annot
     else if bytes_eq word (codes "code") then Some Code
     else if bytes_eq word (codes "fmt") then Some Fmt
@@ -138,6 +139,7 @@ order_of words = if list_all is_short words then order_by_count words else None
 -- what an order takes from the source, and what is asked of it
 abbrev pub intake_of : Order → Intake
 intake_of Types = Text text.Types
+intake_of Explain = Text text.Explain
 intake_of Annot = Text text.Annot
 intake_of Code = Text text.Code
 intake_of Fmt = Text text.Fmt
@@ -159,6 +161,7 @@ intake_of (Calls budget) = Bytes (bytes.Calls budget)
 -- the order that asks this of a text
 abbrev pub order_about : TextOrder → Order
 order_about text.Types = Types
+order_about text.Explain = Explain
 order_about text.Annot = Annot
 order_about text.Code = Code
 order_about text.Fmt = Fmt

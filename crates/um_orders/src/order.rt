@@ -29,7 +29,9 @@ const MOST_FUNCTIONS: u64 = 2000;
 pub enum Order {
     /// Print the scheme of each function.
     Types,
-    /// Print the same, and after each scheme the place and the type of each node of the function's body.
+    /// Print the same; if the text is refused, print the refusal with its line of the source and its reasons.
+    Explain,
+    /// Print the schemes, and after each one the place and the type of each node of the function's body.
     Annot,
     /// Print the listing of the program's code.
     Code,
@@ -80,6 +82,7 @@ pub enum Intake {
 #[derive(Clone, Copy)]
 pub enum TextOrder {
     Types,
+    Explain,
     Annot,
     Code,
     Fmt,
@@ -112,6 +115,7 @@ impl Order {
     {
         match self {
             Order::Types => Intake::Text(TextOrder::Types),
+            Order::Explain => Intake::Text(TextOrder::Explain),
             Order::Annot => Intake::Text(TextOrder::Annot),
             Order::Code => Intake::Text(TextOrder::Code),
             Order::Fmt => Intake::Text(TextOrder::Fmt),
@@ -135,12 +139,12 @@ impl Order {
 
 /// The order that the words name, or nothing if they have none of the forms. Takes no memory.
 ///
-/// The forms are `types`, `annot`, `code`, `fmt`, `tidy`, `prove`, `image`, `big N`, `rescale SIZES`, `calls BUDGET`,
-/// `conform NAME TYPE`, `twin BUDGET SIZES NAME ARG*`, `show DIGITS UNITS BUDGET NAME ARG*`, and `run`, `steps`,
-/// `eval`, `trace` or `exec` with BUDGET NAME ARG*. A budget is one to eight digits of value at most 10,000,000, N is
-/// one to four digits of value 1 to 2,000, DIGITS is one or two digits of value at most 18, SIZES states sizes of base
-/// units (`um_sizes::is_scales` says how), and each word is at most 1,048,576 bytes long. UNITS is any word here:
-/// whether it states units (`um_display::is_units`) is asked before anything is read.
+/// The forms are `types`, `explain`, `annot`, `code`, `fmt`, `tidy`, `prove`, `image`, `big N`, `rescale SIZES`,
+/// `calls BUDGET`, `conform NAME TYPE`, `twin BUDGET SIZES NAME ARG*`, `show DIGITS UNITS BUDGET NAME ARG*`, and `run`,
+/// `steps`, `eval`, `trace` or `exec` with BUDGET NAME ARG*. A budget is one to eight digits of value at most
+/// 10,000,000, N is one to four digits of value 1 to 2,000, DIGITS is one or two digits of value at most 18, SIZES
+/// states sizes of base units (`um_sizes::is_scales` says how), and each word is at most 1,048,576 bytes long. UNITS is
+/// any word here: whether it states units (`um_display::is_units`) is asked before anything is read.
 pub fn order_of(words: &Words) -> Option<Order>
     ensures { result ≡ order_named words.now }
 {
@@ -165,6 +169,7 @@ fn order_alone(word: &str) -> Option<Order>
 {
     match word {
         "types" => Some(Order::Types),
+        "explain" => Some(Order::Explain),
         "annot" => Some(Order::Annot),
         "code" => Some(Order::Code),
         "fmt" => Some(Order::Fmt),

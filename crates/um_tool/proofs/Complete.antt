@@ -3,7 +3,7 @@ use Rattle.std.proofs.Common.{◌≡◌, ℕ, List, inl, inr}
 use Rattle.std.specs.declared.option.Option.{Option}
 use Rattle.um_lines.specs.Sources.{program_in}
 use Rattle.um_orders.specs.declared.order.Order.{Order}
-use Rattle.um_orders.specs.declared.order.Order.TheVariants.{Types, Annot, Code, Fmt, Tidy, Run, Steps, Eval, Trace, Show, Conform, Rescale, Twin, Big, Prove, Image, Exec, Calls}
+use Rattle.um_orders.specs.declared.order.Order.TheVariants.{Types, Explain, Annot, Code, Fmt, Tidy, Run, Steps, Eval, Trace, Show, Conform, Rescale, Twin, Big, Prove, Image, Exec, Calls}
 use Rattle.um_reports.specs.declared.status.Status.{Status}
 use Rattle.um_reports.specs.declared.status.Status.TheVariants.{Done}
 use Rattle.um_sig.specs.Laws.{ReadingsAreUnique}
@@ -20,6 +20,7 @@ use Rattle.um_call_answers.proofs.BigAnswers.{big_done}
 use Rattle.um_call_answers.proofs.TwinDone.{twin_done}
 use Rattle.um_trace_answers.proofs.TraceAnswers.{trace_done}
 use Rattle.um_display_answers.proofs.ShowDone.{show_done}
+use Rattle.um_explain_answers.proofs.ShortTexts.{explain_done_if_short}
 use Rattle.um_tool.specs.Asked.{called, held_name, signature_text, rescale_sizes, twin_sizes, called_twice}
 use Rattle.um_tool.specs.Asked.{shown_units, called_shown}
 use Rattle.um_tool.specs.Answer.{Answer, ByOrder}
@@ -29,6 +30,7 @@ use Rattle.um_tool.specs.Served.{IsPlanned, IsComplete, IsUndisturbed}
 module _ (one_reading : ReadingsAreUnique) (exec_done : ExecAnswersAreDone) where
   by_order_done : (order : Order) (words : List (List ℕ)) (bytes text : List ℕ) (status : Status) → GoesThrough order words bytes → ByOrder order words bytes text status → status ≡ Done
   by_order_done Types words bytes text status typed answer = let checked = typed_text_is_checked bytes typed in types_done bytes text status checked.0 checked.1 answer
+  by_order_done Explain words bytes text status short answer = explain_done_if_short bytes text status short answer
   by_order_done Annot words bytes text status (c, is, have) answer = annot_done bytes text status c is have answer
   by_order_done Code words bytes text status typed answer = let checked = typed_text_is_checked bytes typed in code_done bytes text status checked.0 checked.1 answer
   by_order_done Fmt words bytes text status (raw, read) answer = fmt_done bytes text status raw read answer

@@ -8,7 +8,7 @@ use Rattle.um_infer.specs.Schemes.{ArePrincipal, IsFirstUntyped}
 use Rattle.um_infer.specs.Laws.{IsLimited}
 use Rattle.um_infer.proofs.InferenceLaws.{schemes_are_given_to_typed, units_stop_at_first_untyped, not_general_stops_at_first_untyped}
 use Rattle.um_orders.specs.declared.order.Order.{Order}
-use Rattle.um_orders.specs.declared.order.Order.TheVariants.{Types, Annot, Code, Fmt, Tidy, Run, Steps, Eval, Trace, Show, Conform, Rescale, Twin, Big, Prove, Image, Exec, Calls}
+use Rattle.um_orders.specs.declared.order.Order.TheVariants.{Types, Explain, Annot, Code, Fmt, Tidy, Run, Steps, Eval, Trace, Show, Conform, Rescale, Twin, Big, Prove, Image, Exec, Calls}
 use Rattle.um_reports.specs.declared.status.Status.{Status}
 use Rattle.um_reports.specs.Refusals.{placed, units_label, not_general_label}
 use Rattle.um_front.specs.Stages.{ShapedTree, CheckedTree, IsCheckedText}
@@ -109,6 +109,7 @@ module _ (bytes : List ℕ) (s : ShapedTree) (spells : SpellsProgram bytes s) (t
   by_order : (order : Order) (words : List (List ℕ)) → NeedsSchemes order → StatesUnits order words → ByOrder order words bytes text status → IsTypedOrNamed
   unfolding TypesAnswer AnnotAnswer CodeAnswer TraceAnswer ShowAnswer ConformAnswer RescaleAnswer TwinAnswer ImageAnswer
   by_order Types words needs units answer = typed_or_refused IsSchemeList (types_not_named text status) answer
+  by_order Explain words needs units answer = absurd needs
   by_order Annot words needs units answer = typed_or_refused (IsAnnotReply bytes) (annot_not_named text status bytes) answer
   by_order Code words needs units answer = typed_or_refused IsListing (code_not_named text status) answer
   by_order Fmt words needs units answer = absurd needs

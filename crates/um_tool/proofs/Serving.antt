@@ -7,7 +7,7 @@ use Rattle.um_wire.specs.Bytes.{Tells, TellsMoreThan}
 use Rattle.um_wire.specs.declared.read.ReadStop.{ReadStop}
 use Rattle.um_wire.specs.declared.read.ReadStop.TheVariants.{TooLong as TooLongToRead, Failed as ReadFailed, NoMemory as OutOfMemory}
 use Rattle.um_orders.specs.declared.order.Order.{Order}
-use Rattle.um_orders.specs.declared.order.Order.TheVariants.{Types, Annot, Code, Fmt, Tidy, Run, Steps, Eval, Trace, Show, Conform, Rescale, Twin, Big, Prove, Image, Exec, Calls}
+use Rattle.um_orders.specs.declared.order.Order.TheVariants.{Types, Explain, Annot, Code, Fmt, Tidy, Run, Steps, Eval, Trace, Show, Conform, Rescale, Twin, Big, Prove, Image, Exec, Calls}
 use Rattle.um_orders.specs.declared.order.BytesOrder.{BytesOrder}
 use Rattle.um_orders.specs.declared.order.BytesOrder.TheVariants as bytes_order
 use Rattle.um_orders.specs.declared.order.TextOrder.{TextOrder}
@@ -35,6 +35,7 @@ use Rattle.um_call_answers.specs.ExecAnswer.{BytesAnswer, ExecAnswer}
 use Rattle.um_call_answers.specs.CallsAnswer.{SourceAnswer, CallsAnswer}
 use Rattle.um_trace_answers.specs.TraceAnswer.{TraceAnswer}
 use Rattle.um_display_answers.specs.ShowAnswer.{ShowAnswer}
+use Rattle.um_explain_answers.proofs.ShortTexts.{explain_too_long}
 use Rattle.um_display.specs.UnitWords.{PartSyntax, IsUnitWord}
 use Rattle.um_tool.specs.Asked.{called, shown_units, StatesUnits}
 use Rattle.um_tool.specs.Answer.{Answer, ByOrder}
@@ -75,6 +76,7 @@ states_by_word order digits budget words word is same (Err e) stated = stated
 not_stated : (order : Order) (words : List (List ℕ)) (bytes text : List ℕ) (status : Status) → (StatesUnits order words → ⊥) → IsReply text status (line (codes "error 1: usage")) Usage → ByOrder order words bytes text status
 not_stated (Show digits budget) words bytes text status none reply = inr (none, reply)
 not_stated Types words bytes text status none reply = absurd (none tt)
+not_stated Explain words bytes text status none reply = absurd (none tt)
 not_stated Annot words bytes text status none reply = absurd (none tt)
 not_stated Code words bytes text status none reply = absurd (none tt)
 not_stated Fmt words bytes text status none reply = absurd (none tt)
@@ -114,6 +116,7 @@ generated_planned words left before now n text status ordered answer =
 too_long : (order : TextOrder) (words : List (List ℕ)) → StatesUnits (order_about order) words → (bytes text : List ℕ) (status : Status) → 1048576 < length bytes → IsReply text status (line (codes "error 2: text too long")) TooLong → ByOrder (order_about order) words bytes text status
 unfolding TypesAnswer AnnotAnswer CodeAnswer FmtAnswer TidyAnswer CallAnswer TraceAnswer ShowAnswer ConformAnswer RescaleAnswer TwinAnswer ProveAnswer ImageAnswer
 too_long text_order.Types words units bytes text status long reply = inr (too_long_unchecked bytes text status long reply)
+too_long text_order.Explain words units bytes text status long reply = explain_too_long bytes text status long reply
 too_long text_order.Annot words units bytes text status long reply = inr (too_long_unchecked bytes text status long reply)
 too_long text_order.Code words units bytes text status long reply = inr (too_long_unchecked bytes text status long reply)
 too_long text_order.Fmt words units bytes text status long reply = inr (too_long_unread bytes text status long reply)
@@ -131,6 +134,7 @@ too_long text_order.Image words units bytes text status long reply = inr (too_lo
 
 text_takes : (order : TextOrder) → TakesSome (intake_of (order_about order))
 text_takes text_order.Types = tt
+text_takes text_order.Explain = tt
 text_takes text_order.Annot = tt
 text_takes text_order.Code = tt
 text_takes text_order.Fmt = tt

@@ -2,7 +2,7 @@
 use Rattle.std.proofs.Common.{ℕ, List, IsTrue, None, Some, MatchOption, codes, refl, inl, inr}
 use Rattle.std.specs.declared.option.Option.{Option}
 use Rattle.um_orders.specs.declared.order.Order.{Order}
-use Rattle.um_orders.specs.declared.order.Order.TheVariants.{Types, Annot, Code, Fmt, Tidy, Run, Steps, Eval, Trace, Show, Conform, Rescale, Twin, Big, Prove, Image, Exec, Calls}
+use Rattle.um_orders.specs.declared.order.Order.TheVariants.{Types, Explain, Annot, Code, Fmt, Tidy, Run, Steps, Eval, Trace, Show, Conform, Rescale, Twin, Big, Prove, Image, Exec, Calls}
 use Rattle.um_orders.specs.Orders.{order_of}
 use Rattle.um_reports.specs.declared.status.Status.{Status}
 use Rattle.um_reports.specs.declared.status.Status.TheVariants.{Usage}
@@ -20,12 +20,14 @@ use Rattle.um_call_answers.proofs.ExecAnswers.{ExecAnswer-status}
 use Rattle.um_call_answers.proofs.TwinAnswers.{TwinAnswer-status}
 use Rattle.um_trace_answers.proofs.TraceAnswers.{TraceAnswer-status}
 use Rattle.um_display_answers.proofs.ShowStatuses.{ShowAnswer-status}
+use Rattle.um_explain_answers.proofs.ExplainAnswers.{ExplainAnswer-status}
 use Rattle.um_tool.specs.Asked.{called, held_name, signature_text, rescale_sizes, twin_sizes, called_twice}
 use Rattle.um_tool.specs.Asked.{shown_units, called_shown}
 use Rattle.um_tool.specs.Answer.{Answer, ByOrder}
 
 by_order_status : (order : Order) (words : List (List ℕ)) (bytes text : List ℕ) (status : Status) → ByOrder order words bytes text status → IsTrue (is_answered status)
 by_order_status Types words bytes text status answer = TypesAnswer-status bytes text status answer
+by_order_status Explain words bytes text status answer = ExplainAnswer-status bytes text status answer
 by_order_status Annot words bytes text status answer = AnnotAnswer-status bytes text status answer
 by_order_status Code words bytes text status answer = CodeAnswer-status bytes text status answer
 by_order_status Fmt words bytes text status answer = FmtAnswer-status bytes text status answer

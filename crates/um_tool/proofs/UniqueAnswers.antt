@@ -3,7 +3,7 @@ use Rattle.std.proofs.Common.{◌≡◌, ℕ, List, Some, None, MatchOption, cod
 use Rattle.std.specs.declared.option.Option.{Option}
 use Rattle.um_parse.specs.Laws.{AnswersAreUnique as ParsesAreUnique}
 use Rattle.um_orders.specs.declared.order.Order.{Order}
-use Rattle.um_orders.specs.declared.order.Order.TheVariants.{Types, Annot, Code, Fmt, Tidy, Run, Steps, Eval, Trace, Show, Conform, Rescale, Twin, Big, Prove, Image, Exec, Calls}
+use Rattle.um_orders.specs.declared.order.Order.TheVariants.{Types, Explain, Annot, Code, Fmt, Tidy, Run, Steps, Eval, Trace, Show, Conform, Rescale, Twin, Big, Prove, Image, Exec, Calls}
 use Rattle.um_orders.specs.Orders.{order_of}
 use Rattle.um_reports.specs.declared.status.Status.{Status}
 use Rattle.um_reports.specs.declared.status.Status.TheVariants.{Usage}
@@ -22,6 +22,7 @@ use Rattle.um_call_answers.proofs.UniqueReplies.{call_one}
 use Rattle.um_call_answers.proofs.TwinAnswers.{twin_one}
 use Rattle.um_trace_answers.specs.Laws.{TracesAreOne}
 use Rattle.um_display_answers.proofs.ShowOnce.{ShowAnswer-once}
+use Rattle.um_explain_answers.proofs.ExplainAnswers.{explain_one}
 use Rattle.um_tool.specs.Asked.{called, held_name, signature_text, rescale_sizes, twin_sizes, called_twice}
 use Rattle.um_tool.specs.Asked.{shown_units, called_shown}
 use Rattle.um_tool.specs.Answer.{Answer, ByOrder}
@@ -39,6 +40,7 @@ one_unless_proof order other = tt
 module _ (one : ParsesAreUnique) (one_reading : ReadingsAreUnique) (one_exec : ExecAnswersAreUnique) (one_trace : TracesAreOne) (text other : List ℕ) (status another : Status) where
   by_order_one : (order : Order) (words : List (List ℕ)) (bytes : List ℕ) → HasOneAnswer order → ByOrder order words bytes text status → ByOrder order words bytes other another → (text ≡ other) × (status ≡ another)
   by_order_one Types words bytes only a b = types_one bytes text status other another one a b
+  by_order_one Explain words bytes only a b = explain_one bytes text status other another one a b
   by_order_one Annot words bytes only a b = annot_one bytes text status other another one a b
   by_order_one Code words bytes only a b = code_one bytes text status other another one a b
   by_order_one Fmt words bytes only a b = fmt_one bytes text status other another one a b

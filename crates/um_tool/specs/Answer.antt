@@ -2,8 +2,8 @@
 -- Source: this project's own.
 use Rattle.std.specs.Prelude.{ℕ, List, codes, MatchOption}
 use Rattle.um_orders.specs.declared.order.Order.{Order}
-use Rattle.um_orders.specs.declared.order.Order.TheVariants.{Types, Annot, Code, Fmt, Tidy, Run, Steps, Eval, Trace}
-use Rattle.um_orders.specs.declared.order.Order.TheVariants.{Show, Conform, Rescale, Twin}
+use Rattle.um_orders.specs.declared.order.Order.TheVariants.{Types, Explain, Annot, Code, Fmt, Tidy, Run, Steps, Eval}
+use Rattle.um_orders.specs.declared.order.Order.TheVariants.{Trace, Show, Conform, Rescale, Twin}
 use Rattle.um_orders.specs.declared.order.Order.TheVariants.{Big, Prove, Image, Exec, Calls}
 use Rattle.um_orders.specs.Orders.{order_of}
 use Rattle.um_reports.specs.declared.status.Status.{Status}
@@ -26,6 +26,7 @@ use Rattle.um_call_answers.specs.ExecAnswer.{ExecAnswer}
 use Rattle.um_call_answers.specs.CallsAnswer.{CallsAnswer}
 use Rattle.um_trace_answers.specs.TraceAnswer.{TraceAnswer}
 use Rattle.um_display_answers.specs.ShowAnswer.{ShowAnswer}
+use Rattle.um_explain_answers.specs.ExplainAnswer.{ExplainAnswer}
 use Rattle.um_tool.specs.Asked.{called, held_name, signature_text, rescale_sizes, twin_sizes, called_twice}
 use Rattle.um_tool.specs.Asked.{shown_units, called_shown, StatesUnits}
 
@@ -35,6 +36,7 @@ IsUsageReply text status = IsReply text status (line (codes "error 1: usage")) U
 -- what the order asks of the bytes; `big` takes none
 abbrev pub ByOrder : Order → List (List ℕ) → List ℕ → List ℕ → Status → Type 0
 ByOrder Types words bytes text status = TypesAnswer bytes text status
+ByOrder Explain words bytes text status = ExplainAnswer bytes text status
 ByOrder Annot words bytes text status = AnnotAnswer bytes text status
 ByOrder Code words bytes text status = CodeAnswer bytes text status
 ByOrder Fmt words bytes text status = FmtAnswer bytes text status

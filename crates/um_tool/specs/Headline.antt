@@ -21,7 +21,7 @@ use Rattle.um_run.specs.Laws.{FitsTyping}
 use Rattle.um_scale.specs.RescaledLiterals.{misfit_in}
 use Rattle.um_sizes.specs.BaseSizes.{AreScalesRead}
 use Rattle.um_orders.specs.declared.order.Order.{Order}
-use Rattle.um_orders.specs.declared.order.Order.TheVariants.{Fmt, Tidy, Twin, Big, Prove, Exec, Calls}
+use Rattle.um_orders.specs.declared.order.Order.TheVariants.{Explain, Fmt, Tidy, Twin, Big, Prove, Exec, Calls}
 use Rattle.um_orders.specs.Orders.{order_of}
 use Rattle.um_reports.specs.declared.status.Status.{Status}
 use Rattle.um_reports.specs.declared.status.Status.TheVariants.{Done, Units, Input, NoMemory, NotGeneral}
@@ -86,8 +86,9 @@ TypesAreSchemesOrFirstUntyped =
     (text : List ℕ) (status : Status) → TypesAnswers bytes text status →
     SchemesOrFirstUntyped bytes s.program text status
 
--- the order asks for the schemes of all functions of the text that it reads
+-- the order asks for the schemes of all functions of the text that it reads, and is refused without them
 abbrev pub NeedsSchemes : Order → Type 0
+NeedsSchemes Explain = ⊥
 NeedsSchemes Fmt = ⊥
 NeedsSchemes Tidy = ⊥
 NeedsSchemes Prove = ⊥

@@ -4,8 +4,8 @@ use Rattle.std.specs.Prelude.{ℕ, ◌-◌, ◌≤◌, List, length}
 use Rattle.um_tree.specs.RawTree.{DeclSyntax}
 use Rattle.um_lines.specs.Sources.{program_in}
 use Rattle.um_orders.specs.declared.order.Order.{Order}
-use Rattle.um_orders.specs.declared.order.Order.TheVariants.{Types, Annot, Code, Fmt, Tidy, Run, Steps, Eval, Trace}
-use Rattle.um_orders.specs.declared.order.Order.TheVariants.{Show, Conform, Rescale, Twin}
+use Rattle.um_orders.specs.declared.order.Order.TheVariants.{Types, Explain, Annot, Code, Fmt, Tidy, Run, Steps, Eval}
+use Rattle.um_orders.specs.declared.order.Order.TheVariants.{Trace, Show, Conform, Rescale, Twin}
 use Rattle.um_orders.specs.declared.order.Order.TheVariants.{Big, Prove, Image, Exec, Calls}
 use Rattle.um_front.specs.Stages.{IsReadText, CheckedTree, IsCheckedText}
 use Rattle.um_answers.specs.Passing.{IsTypedText, IsProvableText, HasNodeTypes, HasTypings, HasSizes}
@@ -28,6 +28,7 @@ CallGoesThrough asked bytes = IsCheckedWith bytes (λ c. GivesValue asked c)
 
 abbrev pub GoesThrough : Order → List (List ℕ) → List ℕ → Type 0
 GoesThrough Types words bytes = IsTypedText bytes
+GoesThrough Explain words bytes = length bytes ≤ 1048576
 GoesThrough Annot words bytes = IsCheckedWith bytes (λ c. HasNodeTypes c)
 GoesThrough Code words bytes = IsTypedText bytes
 GoesThrough Fmt words bytes = (raw : List DeclSyntax) × IsReadText bytes raw

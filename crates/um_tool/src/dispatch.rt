@@ -12,6 +12,7 @@ use um_answers::{
 };
 use um_call_answers::{Way, answer_call, answer_calls, answer_exec, answer_twin};
 use um_display_answers::answer_show;
+use um_explain_answers::answer_explain;
 use um_front::{Answer, Text};
 use um_orders::{BytesOrder, TextOrder, Words};
 use um_trace_answers::answer_trace;
@@ -24,6 +25,7 @@ pub(crate) fn answer_text(alloc: Global, order: TextOrder, words: &Words, text: 
 {
     match order {
         TextOrder::Types => answer_types(alloc, text),
+        TextOrder::Explain => answer_explain(alloc, text),
         TextOrder::Annot => answer_annot(alloc, text),
         TextOrder::Code => answer_code(alloc, text),
         TextOrder::Fmt => answer_fmt(alloc, text),

@@ -121,6 +121,7 @@ fn states_units(alloc: Global, order: Order, words: &Words) -> Result<bool, Allo
             budget: _,
         } => is_units(alloc, words.word(2)),
         Order::Types
+        | Order::Explain
         | Order::Annot
         | Order::Code
         | Order::Fmt
