@@ -1,6 +1,5 @@
-"""The program as a process: which one runs, signals, closed pipes, full disks, and files that can't be read."""
+"""The program as a process: which one runs, limits, closed pipes, full disks, and files that can't be read."""
 import os
-import pty
 import shutil
 import signal
 import subprocess
@@ -109,117 +108,6 @@ def test_a_program_that_does_not_read_its_text_is_answered(um, program, script):
     found = um("types", file, UMC=str(script("echo 'error 1: usage'; exit 1")))
     assert found.status == 1
     assert found.err.splitlines()[0] == f"{file}: error 1: usage"
-
-
-# ---- signals
-
-@pytest.mark.parametrize("number", [signal.SIGINT, signal.SIGTERM, signal.SIGHUP, signal.SIGQUIT])
-@pytest.mark.parametrize("text", ["echo $$ > {0}/pid; exec sleep 60", "sleep 60 & echo $! > {0}/pid; wait",
-                                  "trap '' TERM; echo $$ > {0}/pid; while :; do sleep 1; done"])
-def test_a_signal_ends_both(start, script, tmp_path, number, text):
-    stub = script(text.format(tmp_path))
-    um = start([sys.executable, UM, "run", "examples/area.um", "area", "1", "2"], stdout=subprocess.PIPE,
-               stderr=subprocess.PIPE, env={**os.environ, "UMC": str(stub)})
-    process = wait_for_process(tmp_path / "pid")
-    um.send_signal(number)
-    out, err = um.communicate(timeout=60)
-    assert (um.returncode, out, err) == (-number, b"", b"")
-    assert not is_alive(process)
-
-
-@pytest.mark.parametrize("number", [signal.SIGINT, signal.SIGQUIT, signal.SIGHUP])
-def test_a_signal_that_the_starter_ignores_ends_nothing(start, script, tmp_path, number):
-    stub = script(f"echo $$ > {tmp_path}/pid; while [ ! -e {tmp_path}/end ]; do sleep 0.05; done; cat > /dev/null")
-    um = start(["sh", "-c", f'trap "" {int(number)}; exec "$0" "$@"', sys.executable, UM, "types", "examples/area.um"],
-               stdout=subprocess.PIPE, env={**os.environ, "UMC": str(stub)})
-    process = wait_for_process(tmp_path / "pid")
-    um.send_signal(number)
-    time.sleep(0.2)
-    assert um.poll() is None and state(process) != "Z"
-    (tmp_path / "end").touch()
-    assert um.wait(timeout=60) == 0
-
-
-def test_ctrl_c_on_a_terminal_ends_both(script, tmp_path):
-    stub = script(f"echo $$ > {tmp_path}/pid; exec sleep 60")
-    session, terminal = pty.fork()
-    if session == 0:
-        os.environ["UMC"] = str(stub)
-        os.execv(sys.executable, [sys.executable, str(UM), "types", str(HOME / "examples/area.um")])
-    process = wait_for_process(tmp_path / "pid")
-    os.write(terminal, b"\x03")
-    _, status = os.waitpid(session, 0)
-    assert os.WIFSIGNALED(status) and os.WTERMSIG(status) == signal.SIGINT
-    assert not is_alive(process)
-    os.close(terminal)
-
-
-def state(process: int) -> str:
-    return Path(f"/proc/{process}/stat").read_text().rpartition(")")[2].split()[0]
-
-
-def test_ctrl_z_stops_both(start, script, tmp_path):
-    stub = script(f"echo $$ > {tmp_path}/pid; while [ ! -e {tmp_path}/end ]; do :; done; cat > /dev/null")
-    um = start([sys.executable, UM, "types", "examples/area.um"], stdout=subprocess.PIPE,
-               env={**os.environ, "UMC": str(stub)}, process_group=0)
-    process = wait_for_process(tmp_path / "pid")
-    um.send_signal(signal.SIGTSTP)
-    wait_for(lambda: state(um.pid) == state(process) == "T")
-    um.send_signal(signal.SIGCONT)
-    wait_for(lambda: state(process) != "T")
-    (tmp_path / "end").touch()
-    assert um.wait(timeout=60) == 0
-
-
-def test_a_signal_ends_what_other_threads_ask(start, script, tmp_path):
-    stub = script(f"echo $$ > {tmp_path}/pid; exec sleep 60")
-    text = ("import sys, threading, time\nfrom pathlib import Path\n"
-            f"sys.path.insert(0, '{HOME}/python')\nfrom umc import cli, signals\nfrom umc.program import Program\n"
-            "def ask(args):\n"
-            f"    ask = Program(Path('{stub}')).ask\n"
-            "    threading.Thread(target=ask, args=(['types'], b''), daemon=True).start()\n"
-            "    time.sleep(60)\n"
-            "cli.dispatch = ask\ncli.main([])\n")
-    um = start([sys.executable, "-c", text])
-    process = wait_for_process(tmp_path / "pid")
-    um.send_signal(signal.SIGTERM)
-    assert um.wait(timeout=60) == -signal.SIGTERM
-    assert not is_alive(process)
-
-
-def wait_for(condition) -> None:
-    for _ in range(3000):
-        if condition():
-            return
-        time.sleep(0.02)
-    raise AssertionError("it never came so far")
-
-
-def test_a_program_that_is_ended_by_a_signal_is_told(um, script):
-    stub = script("cat > /dev/null; kill -SEGV $$")
-    found = um("types", "examples/area.um", UMC=str(stub))
-    assert (found.status, found.out, found.err) == (139, "", f"um: {stub} was ended by SIGSEGV\n")
-
-
-def wait_for_process(file: Path) -> int:
-    for _ in range(3000):
-        if file.exists() and file.read_text().endswith("\n"):
-            return int(file.read_text())
-        time.sleep(0.02)
-    raise AssertionError("the program never began")
-
-
-def is_alive(process: int) -> bool:
-    """Whether a process still runs after a moment."""
-    for _ in range(50):
-        try:
-            state = Path(f"/proc/{process}/stat").read_text().rpartition(")")[2].split()[0]
-        except OSError:
-            return False
-        if state == "Z":        # ended, and nobody has asked yet how
-            return False
-        time.sleep(0.02)
-    return True
 
 
 # ---- limits

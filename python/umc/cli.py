@@ -68,6 +68,7 @@ def main(words: list[str] | None = None) -> int:
         status = dispatch(sys.argv[1:] if words is None else words)
         if sys.stdout is not None:
             sys.stdout.flush()
+        signals.check()
         return status
     except Stopped as stopped:
         _let_go()

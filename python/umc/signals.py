@@ -1,10 +1,12 @@
 """Signals that end or stop `um`, and with it the program that it asks.
 
 A signal that ends raises Stopped where it comes, so that what was begun is ended too. While something must not be
-left half done, signals are held: they take effect right after it.
+left half done, signals are held: they take effect right after it. Python drops what is raised in a destructor; where
+something new begins, `check` raises it once more.
 """
 import os
 import signal
+import sys
 import threading
 from collections.abc import Iterator
 from contextlib import contextmanager, suppress
@@ -18,7 +20,8 @@ ENDING = (signal.SIGINT, signal.SIGTERM, signal.SIGHUP, signal.SIGQUIT)
 running: set[int] = set()
 _pending: list[int] = []
 _holding = False
-_ending = False
+# The signal that ends this process, once it came.
+_ending: int | None = None
 
 
 def install() -> None:
@@ -26,6 +29,7 @@ def install() -> None:
     for number in (*ENDING, signal.SIGTSTP):
         if signal.getsignal(number) in (signal.SIG_DFL, signal.default_int_handler):
             signal.signal(number, _receive)
+    sys.unraisablehook = _unraisable
 
 
 def _receive(number: int, frame: FrameType | None) -> None:
@@ -39,9 +43,21 @@ def _act(number: int) -> None:
     global _ending
     if number == signal.SIGTSTP:
         _pause()
-    elif not _ending:
-        _ending = True
+    elif _ending is None:
+        _ending = number
         raise Stopped(number)
+
+
+def check() -> None:
+    """Raises Stopped if a signal has come that ends this process, and nothing of it was noticed."""
+    if _ending is not None:
+        raise Stopped(_ending)
+
+
+def _unraisable(unraisable: "sys.UnraisableHookArgs") -> None:
+    """Tells what was dropped, but for a signal, which `check` raises once more."""
+    if not isinstance(unraisable.exc_value, Stopped):
+        sys.__unraisablehook__(unraisable)
 
 
 def _pause() -> None:
@@ -59,14 +75,18 @@ def _send(number: int) -> None:
 
 @contextmanager
 def held() -> Iterator[None]:
-    """Signals that come in this block take effect after it. They come in the main thread, so others hold none."""
+    """Signals that come in this block take effect after it, however it ends. They come in the main thread, so others
+    hold none."""
     if not _is_main():
         yield
         return
-    with _set(True):
-        yield
-    while _pending and not _holding:
-        _act(_pending.pop(0))
+    check()
+    try:
+        with _set(True):
+            yield
+    finally:
+        while _pending and not _holding:
+            _act(_pending.pop(0))
 
 
 @contextmanager

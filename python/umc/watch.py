@@ -6,7 +6,7 @@ import sys
 import time
 from pathlib import Path
 
-from umc import options
+from umc import options, signals
 from umc.commands import COMMANDS
 from umc.errors import UmError, UsageError
 from umc.front import Front
@@ -30,6 +30,7 @@ def run(args: argparse.Namespace, front: Front) -> int:
             state = list(found)
             _answer(asked)
         _check_output()
+        signals.check()
         time.sleep(SECONDS)
 
 

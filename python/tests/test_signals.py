@@ -1,0 +1,161 @@
+"""Signals: `um` and the program that it asks end by them, and stop and go on together."""
+import os
+import pty
+import signal
+import subprocess
+import sys
+import time
+from pathlib import Path
+
+import pytest
+
+from conftest import HOME, UM
+
+@pytest.mark.parametrize("number", [signal.SIGINT, signal.SIGTERM, signal.SIGHUP, signal.SIGQUIT])
+@pytest.mark.parametrize("text", ["echo $$ > {0}/pid; exec sleep 60", "sleep 60 & echo $! > {0}/pid; wait",
+                                  "trap '' TERM; echo $$ > {0}/pid; while :; do sleep 1; done"])
+def test_a_signal_ends_both(start, script, tmp_path, number, text):
+    stub = script(text.format(tmp_path))
+    um = start([sys.executable, UM, "run", "examples/area.um", "area", "1", "2"], stdout=subprocess.PIPE,
+               stderr=subprocess.PIPE, env={**os.environ, "UMC": str(stub)})
+    process = wait_for_process(tmp_path / "pid")
+    um.send_signal(number)
+    out, err = um.communicate(timeout=60)
+    assert (um.returncode, out, err) == (-number, b"", b"")
+    assert not is_alive(process)
+
+
+@pytest.mark.parametrize("number", [signal.SIGINT, signal.SIGQUIT, signal.SIGHUP])
+def test_a_signal_that_the_starter_ignores_ends_nothing(start, script, tmp_path, number):
+    stub = script(f"echo $$ > {tmp_path}/pid; while [ ! -e {tmp_path}/end ]; do sleep 0.05; done; cat > /dev/null")
+    um = start(["sh", "-c", f'trap "" {int(number)}; exec "$0" "$@"', sys.executable, UM, "types", "examples/area.um"],
+               stdout=subprocess.PIPE, env={**os.environ, "UMC": str(stub)})
+    process = wait_for_process(tmp_path / "pid")
+    um.send_signal(number)
+    time.sleep(0.2)
+    assert um.poll() is None and state(process) != "Z"
+    (tmp_path / "end").touch()
+    assert um.wait(timeout=60) == 0
+
+
+def test_ctrl_c_on_a_terminal_ends_both(script, tmp_path):
+    stub = script(f"echo $$ > {tmp_path}/pid; exec sleep 60")
+    session, terminal = pty.fork()
+    if session == 0:
+        os.environ["UMC"] = str(stub)
+        os.execv(sys.executable, [sys.executable, str(UM), "types", str(HOME / "examples/area.um")])
+    process = wait_for_process(tmp_path / "pid")
+    os.write(terminal, b"\x03")
+    _, status = os.waitpid(session, 0)
+    assert os.WIFSIGNALED(status) and os.WTERMSIG(status) == signal.SIGINT
+    assert not is_alive(process)
+    os.close(terminal)
+
+
+def state(process: int) -> str:
+    return Path(f"/proc/{process}/stat").read_text().rpartition(")")[2].split()[0]
+
+
+def test_ctrl_z_stops_both(start, script, tmp_path):
+    stub = script(f"echo $$ > {tmp_path}/pid; while [ ! -e {tmp_path}/end ]; do :; done; cat > /dev/null")
+    um = start([sys.executable, UM, "types", "examples/area.um"], stdout=subprocess.PIPE,
+               env={**os.environ, "UMC": str(stub)}, process_group=0)
+    process = wait_for_process(tmp_path / "pid")
+    um.send_signal(signal.SIGTSTP)
+    wait_for(lambda: state(um.pid) == state(process) == "T")
+    um.send_signal(signal.SIGCONT)
+    wait_for(lambda: state(process) != "T")
+    (tmp_path / "end").touch()
+    assert um.wait(timeout=60) == 0
+
+
+def test_a_signal_ends_what_other_threads_ask(start, script, tmp_path):
+    stub = script(f"echo $$ > {tmp_path}/pid; exec sleep 60")
+    text = ("import sys, threading, time\nfrom pathlib import Path\n"
+            f"sys.path.insert(0, '{HOME}/python')\nfrom umc import cli, signals\nfrom umc.program import Program\n"
+            "def ask(args):\n"
+            f"    ask = Program(Path('{stub}')).ask\n"
+            "    threading.Thread(target=ask, args=(['types'], b''), daemon=True).start()\n"
+            "    time.sleep(60)\n"
+            "cli.dispatch = ask\ncli.main([])\n")
+    um = start([sys.executable, "-c", text])
+    process = wait_for_process(tmp_path / "pid")
+    um.send_signal(signal.SIGTERM)
+    assert um.wait(timeout=60) == -signal.SIGTERM
+    assert not is_alive(process)
+
+
+def wait_for(condition) -> None:
+    for _ in range(3000):
+        if condition():
+            return
+        time.sleep(0.02)
+    raise AssertionError("it never came so far")
+
+
+def test_a_program_that_is_ended_by_a_signal_is_told(um, script):
+    stub = script("cat > /dev/null; kill -SEGV $$")
+    found = um("types", "examples/area.um", UMC=str(stub))
+    assert (found.status, found.out, found.err) == (139, "", f"um: {stub} was ended by SIGSEGV\n")
+
+
+def wait_for_process(file: Path) -> int:
+    for _ in range(3000):
+        if file.exists() and file.read_text().endswith("\n"):
+            return int(file.read_text())
+        time.sleep(0.02)
+    raise AssertionError("the program never began")
+
+
+def is_alive(process: int) -> bool:
+    """Whether a process still runs after a moment."""
+    for _ in range(50):
+        try:
+            state = Path(f"/proc/{process}/stat").read_text().rpartition(")")[2].split()[0]
+        except OSError:
+            return False
+        if state == "Z":        # ended, and nobody has asked yet how
+            return False
+        time.sleep(0.02)
+    return True
+
+
+# In each of these a signal comes where what is raised is dropped, or where signals are held.
+LOST = {
+    "in a destructor": "class Last:\n"
+                       "    def __del__(self): os.kill(os.getpid(), signal.SIGTERM)\n"
+                       "def step(): Last()\n",
+    "in a block that holds it and fails": "def step():\n"
+                                          "    with suppress(KeyError), signals.held():\n"
+                                          "        os.kill(os.getpid(), signal.SIGTERM)\n"
+                                          "        raise KeyError\n",
+}
+AFTER = {"the end": "return 0", "the next program": "Program(Path('/bin/true')).ask([], b''); print('asked')",
+         "the next turn of watch": "watch._answer = lambda asked: step(); carry_out(options.parse("
+                                   "COMMANDS['watch'].parser(), [AREA, 'types']))"}
+
+
+@pytest.mark.parametrize("lost", LOST.values(), ids=LOST)
+@pytest.mark.parametrize("after", AFTER.values(), ids=AFTER)
+def test_no_signal_is_lost(start, lost, after):
+    text = f"""import os, signal, sys
+from contextlib import suppress
+from pathlib import Path
+sys.path.insert(0, '{HOME}/python')
+from umc import cli, options, signals, watch
+from umc.commands import COMMANDS
+from umc.program import Program
+AREA = '{HOME}/examples/area.um'
+def carry_out(args):
+    args.command = 'watch'
+    return cli.carry_out(args)
+{lost}
+def dispatch(words):
+    step()
+    {after}
+cli.dispatch = dispatch
+cli.main([])
+"""
+    um = start([sys.executable, "-c", text], stdout=subprocess.PIPE, stderr=subprocess.PIPE)
+    assert um.wait(timeout=60) == -signal.SIGTERM
+    assert (um.stdout.read(), um.stderr.read()) == (b"", b"")
