@@ -18,6 +18,8 @@ from typing import Any
 
 import pytest
 
+from waiting import WAIT
+
 HOME = Path(__file__).resolve().parents[2]
 UM = HOME / "um"
 BUILT = HOME / "crates/umc/out/umc"
@@ -93,10 +95,9 @@ class Run:
         return [json.loads(line) for line in self.out.splitlines()]
 
 
-def run(*words: str | Path, stdin: str | bytes = b"", cwd: Path = HOME, timeout: float = 100,
-        **environment: str) -> Run:
+def run(*words: str | Path, stdin: str | bytes = b"", cwd: Path = HOME, **environment: str) -> Run:
     """Runs `um` on these words."""
-    done = subprocess.run([sys.executable, str(UM), *map(str, words)], cwd=cwd, capture_output=True, timeout=timeout,
+    done = subprocess.run([sys.executable, str(UM), *map(str, words)], cwd=cwd, capture_output=True, timeout=WAIT,
                           input=stdin.encode() if isinstance(stdin, str) else stdin,
                           env={**os.environ, **environment})
     return Run(done.returncode, done.stdout.decode("utf-8", "surrogateescape"),
@@ -120,7 +121,7 @@ def start() -> Iterator[Callable[..., subprocess.Popen[bytes]]]:
     for process in started:
         if process.poll() is None:
             process.terminate()
-            process.wait(timeout=60)
+            process.wait(timeout=WAIT)
 
 
 def answer(words: Sequence[str], text: str | bytes) -> tuple[int, str]:

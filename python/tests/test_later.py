@@ -4,11 +4,11 @@ import signal
 import subprocess
 import sys
 import threading
-import time
 
 import pytest
 
 from conftest import HOME, UM, answer
+from waiting import WAIT, wait_for
 
 UNTIDY = "let  k=2.50//half of it\n\n\n\nlet j=  1\n"
 TIDY = "let k = 2.50 //half of it\n\nlet j = 1\n"
@@ -100,18 +100,14 @@ class Watch:
             self.lines.append(line.rstrip("\n"))
 
     def wait(self, line):
-        for _ in range(3000):
-            if line in self.lines:
-                return
-            time.sleep(0.02)
-        raise AssertionError(f"{line} never came: {self.lines}")
+        wait_for(lambda: line in self.lines, line)
 
     def __enter__(self):
         return self
 
     def __exit__(self, *_):
         self.um.send_signal(signal.SIGINT)
-        assert self.um.wait(timeout=60) == -signal.SIGINT
+        assert self.um.wait(timeout=WAIT) == -signal.SIGINT
 
 
 def test_watch_answers_again_when_the_file_changes(program):

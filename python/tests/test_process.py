@@ -10,6 +10,7 @@ from pathlib import Path
 import pytest
 
 from conftest import HOME, PROGRAM, UM, answer
+from waiting import WAIT
 
 AREA = "area : num<m> -> num<m> -> num<m^2>\n"
 
@@ -93,7 +94,7 @@ def test_what_the_program_says_comes_at_once(start, script, tmp_path):
                env={**os.environ, "UMC": str(stub)})
     assert um.stderr and um.stderr.readline() == b"progress\n"
     (tmp_path / "end").touch()
-    assert um.wait(timeout=60) == 0
+    assert um.wait(timeout=WAIT) == 0
 
 
 def test_an_unknown_status_is_handed_on_and_told(um, script):
@@ -118,10 +119,10 @@ ENDLESS = "\n".join(["let f (x: num) =", *(f"  let x{n} = [{p}; {p}] in" for n, 
 
 def test_a_run_ends_at_the_limit_of_its_time(um, script):
     began = time.monotonic()
-    found = um("run", "examples/area.um", "area", "1", "2", "--limit-time", "0.5", UMC=str(script("exec sleep 60")))
+    found = um("run", "examples/area.um", "area", "1", "2", "--limit-time", "0.5", UMC=str(script("exec sleep 1000")))
     assert (found.status, found.out) == (124, "")
     assert found.err == "um: the run took more than 0.5 s (--limit-time)\n"
-    assert time.monotonic() - began < 30
+    assert time.monotonic() - began < WAIT
 
 
 def test_a_value_without_end_ends_at_a_limit(um, program):
@@ -154,9 +155,9 @@ exec {does}"""
 
 @pytest.mark.parametrize("words", RUNS, ids=[words[0] for words in RUNS])
 @pytest.mark.parametrize("does, option, value, told", [
-    ("sleep 60", "--limit-time", "0.3", "the run took more than 0.3 s (--limit-time)"),
+    ("sleep 1000", "--limit-time", "0.3", "the run took more than 0.3 s (--limit-time)"),
     ("yes", "--limit-output", "1M", "the answer is longer than 1 MiB (--limit-output)"),
-    (f"{sys.executable} -c 'x = bytes([1]) * (1 << 28); import time; time.sleep(60)'", "--limit-memory", "128M",
+    (f"{sys.executable} -c 'x = bytes([1]) * (1 << 28); import time; time.sleep(1000)'", "--limit-memory", "128M",
      "the run held more than 128 MiB of memory (--limit-memory)")], ids=["time", "output", "memory"])
 def test_each_command_that_runs_has_its_limits(start, script, words, does, option, value, told):
     stub = script(ENDLESSLY.format(program=PROGRAM, does=does))
@@ -166,7 +167,7 @@ def test_each_command_that_runs_has_its_limits(start, script, words, does, optio
     um.stdin.close()
     assert um.stderr.readline() == f"um: {told}\n".encode()
     if words[0] != "watch":         # which waits for a change of the file
-        assert um.wait(timeout=60) == 124
+        assert um.wait(timeout=WAIT) == 124
         assert um.stdout.read() == b""
 
 
@@ -188,7 +189,7 @@ def test_it_ends_quietly_when_its_output_is_closed(program):
     assert um.stdout.readline() == b"f0 : num<'a> -> num<'a>\n"
     um.stdout.close()
     assert um.stderr.read() == b""
-    assert um.wait(timeout=60) == -signal.SIGPIPE
+    assert um.wait(timeout=WAIT) == -signal.SIGPIPE
 
 
 @pytest.mark.parametrize("words", [["types", "examples/area.um"], ["--help"], ["run", "--help"], ["--version"],
@@ -274,10 +275,10 @@ LONG = f"[{'1<m>; ' * 25000}2<m>]"
 @pytest.mark.needs("calls")
 def test_an_argument_of_any_length_is_taken(um, tmp_path):
     (tmp_path / "list").write_text(LONG)
-    found = um("run", "examples/vehicle.um", "count", f"@{tmp_path}/list", timeout=300)
+    found = um("run", "examples/vehicle.um", "count", f"@{tmp_path}/list")
     assert (found.status, found.out) == (0, "25001\n")
     (tmp_path / "list").write_text(LONG.replace("2<m>", "2<q>"))
-    found = um("run", "examples/vehicle.um", "count", f"@{tmp_path}/list", timeout=300)
+    found = um("run", "examples/vehicle.um", "count", f"@{tmp_path}/list")
     assert (found.status, found.out) == (11, "")
     assert found.err.startswith(f"{tmp_path}/list:1:150004: error 11: argument 1, name\n")
 
@@ -300,8 +301,8 @@ def test_an_argument_that_goes_by_calls_is_answered_as_by_run(um, tmp_path, prog
     text = "let k (x: num list) (y: num) =\n  y - 5\n---\n1 // last"
     assert answer(["run", "9", "k", "[]", "7"], text) == (0, "1\n")
     (tmp_path / "list").write_text(f"[ // comment\n{'1;' * 70000}\t2\r\n]")
-    assert um("run", program(text), "k", f"@{tmp_path}/list", "7", timeout=300).out == "1\n"
-    found = um("run", program("let k (x: num list) = (\n---"), "k", f"@{tmp_path}/list", timeout=300)
+    assert um("run", program(text), "k", f"@{tmp_path}/list", "7").out == "1\n"
+    found = um("run", program("let k (x: num list) = (\n---"), "k", f"@{tmp_path}/list")
     status, line = answer(["types"], "let k (x: num list) = (\n---")
     assert found.status == status == 5
     assert found.err.splitlines()[0].endswith(":2:4: error 5: syntax")

@@ -10,9 +10,11 @@ from pathlib import Path
 import pytest
 
 from conftest import HOME, UM
+from waiting import WAIT, wait_for
+
 
 @pytest.mark.parametrize("number", [signal.SIGINT, signal.SIGTERM, signal.SIGHUP, signal.SIGQUIT])
-@pytest.mark.parametrize("text", ["echo $$ > {0}/pid; exec sleep 60", "sleep 60 & echo $! > {0}/pid; wait",
+@pytest.mark.parametrize("text", ["echo $$ > {0}/pid; exec sleep 1000", "sleep 1000 & echo $! > {0}/pid; wait",
                                   "trap '' TERM; echo $$ > {0}/pid; while :; do sleep 1; done"])
 def test_a_signal_ends_both(start, script, tmp_path, number, text):
     stub = script(text.format(tmp_path))
@@ -20,9 +22,9 @@ def test_a_signal_ends_both(start, script, tmp_path, number, text):
                stderr=subprocess.PIPE, env={**os.environ, "UMC": str(stub)})
     process = wait_for_process(tmp_path / "pid")
     um.send_signal(number)
-    out, err = um.communicate(timeout=60)
+    out, err = um.communicate(timeout=WAIT)
     assert (um.returncode, out, err) == (-number, b"", b"")
-    assert not is_alive(process)
+    wait_for_end(process)
 
 
 @pytest.mark.parametrize("number", [signal.SIGINT, signal.SIGQUIT, signal.SIGHUP])
@@ -33,27 +35,32 @@ def test_a_signal_that_the_starter_ignores_ends_nothing(start, script, tmp_path,
     process = wait_for_process(tmp_path / "pid")
     um.send_signal(number)
     time.sleep(0.2)
-    assert um.poll() is None and state(process) != "Z"
+    assert um.poll() is None and state(process) not in ("", "Z")
     (tmp_path / "end").touch()
-    assert um.wait(timeout=60) == 0
+    assert um.wait(timeout=WAIT) == 0
 
 
 def test_ctrl_c_on_a_terminal_ends_both(script, tmp_path):
-    stub = script(f"echo $$ > {tmp_path}/pid; exec sleep 60")
+    stub = script(f"echo $$ > {tmp_path}/pid; exec sleep 1000")
     session, terminal = pty.fork()
     if session == 0:
         os.environ["UMC"] = str(stub)
         os.execv(sys.executable, [sys.executable, str(UM), "types", str(HOME / "examples/area.um")])
     process = wait_for_process(tmp_path / "pid")
     os.write(terminal, b"\x03")
+    wait_for(lambda: state(session) == "Z", "its end")
     _, status = os.waitpid(session, 0)
     assert os.WIFSIGNALED(status) and os.WTERMSIG(status) == signal.SIGINT
-    assert not is_alive(process)
+    wait_for_end(process)
     os.close(terminal)
 
 
 def state(process: int) -> str:
-    return Path(f"/proc/{process}/stat").read_text().rpartition(")")[2].split()[0]
+    """What a process does, as Linux tells: T if it is stopped, Z if it has ended; nothing if it isn't there."""
+    try:
+        return Path(f"/proc/{process}/stat").read_text().rpartition(")")[2].split()[0]
+    except OSError:
+        return ""
 
 
 def test_ctrl_z_stops_both(start, script, tmp_path):
@@ -62,35 +69,27 @@ def test_ctrl_z_stops_both(start, script, tmp_path):
                env={**os.environ, "UMC": str(stub)}, process_group=0)
     process = wait_for_process(tmp_path / "pid")
     um.send_signal(signal.SIGTSTP)
-    wait_for(lambda: state(um.pid) == state(process) == "T")
+    wait_for(lambda: state(um.pid) == state(process) == "T", "their pause")
     um.send_signal(signal.SIGCONT)
-    wait_for(lambda: state(process) != "T")
+    wait_for(lambda: state(process) != "T", "its continuation")
     (tmp_path / "end").touch()
-    assert um.wait(timeout=60) == 0
+    assert um.wait(timeout=WAIT) == 0
 
 
 def test_a_signal_ends_what_other_threads_ask(start, script, tmp_path):
-    stub = script(f"echo $$ > {tmp_path}/pid; exec sleep 60")
+    stub = script(f"echo $$ > {tmp_path}/pid; exec sleep 1000")
     text = ("import sys, threading, time\nfrom pathlib import Path\n"
             f"sys.path.insert(0, '{HOME}/python')\nfrom umc import cli, signals\nfrom umc.program import Program\n"
             "def ask(args):\n"
             f"    ask = Program(Path('{stub}')).ask\n"
             "    threading.Thread(target=ask, args=(['types'], b''), daemon=True).start()\n"
-            "    time.sleep(60)\n"
+            "    time.sleep(1000)\n"
             "cli.dispatch = ask\ncli.main([])\n")
     um = start([sys.executable, "-c", text])
     process = wait_for_process(tmp_path / "pid")
     um.send_signal(signal.SIGTERM)
-    assert um.wait(timeout=60) == -signal.SIGTERM
-    assert not is_alive(process)
-
-
-def wait_for(condition) -> None:
-    for _ in range(3000):
-        if condition():
-            return
-        time.sleep(0.02)
-    raise AssertionError("it never came so far")
+    assert um.wait(timeout=WAIT) == -signal.SIGTERM
+    wait_for_end(process)
 
 
 def test_a_program_that_is_ended_by_a_signal_is_told(um, script):
@@ -100,24 +99,12 @@ def test_a_program_that_is_ended_by_a_signal_is_told(um, script):
 
 
 def wait_for_process(file: Path) -> int:
-    for _ in range(3000):
-        if file.exists() and file.read_text().endswith("\n"):
-            return int(file.read_text())
-        time.sleep(0.02)
-    raise AssertionError("the program never began")
+    wait_for(lambda: file.exists() and file.read_text().endswith("\n"), "the program")
+    return int(file.read_text())
 
 
-def is_alive(process: int) -> bool:
-    """Whether a process still runs after a moment."""
-    for _ in range(50):
-        try:
-            state = Path(f"/proc/{process}/stat").read_text().rpartition(")")[2].split()[0]
-        except OSError:
-            return False
-        if state == "Z":        # ended, and nobody has asked yet how
-            return False
-        time.sleep(0.02)
-    return True
+def wait_for_end(process: int) -> None:
+    wait_for(lambda: state(process) in ("", "Z"), "the program's end")   # Z: nobody has asked yet how it ended
 
 
 # In each of these a signal comes where what is raised is dropped, or where signals are held.
@@ -157,5 +144,5 @@ cli.dispatch = dispatch
 cli.main([])
 """
     um = start([sys.executable, "-c", text], stdout=subprocess.PIPE, stderr=subprocess.PIPE)
-    assert um.wait(timeout=60) == -signal.SIGTERM
+    assert um.wait(timeout=WAIT) == -signal.SIGTERM
     assert (um.stdout.read(), um.stderr.read()) == (b"", b"")

@@ -6,12 +6,12 @@ import pty
 import signal
 import subprocess
 import sys
-import time
 from fractions import Fraction
 
 import pytest
 
 from conftest import HOME, UM, answer
+from waiting import WAIT, wait_for
 
 pytestmark = pytest.mark.needs("calls")
 VEHICLE = "examples/vehicle.um"
@@ -237,7 +237,7 @@ def test_the_budget_and_the_limits_are_those_of_each_run(um, script):
     found = um("table", VEHICLE, "mean", "-", "--budget", "4", stdin="l\n[1<m>]\n\"[1<m>; 2<m>]\"\n")
     assert found.status == 13
     assert found.err.splitlines()[0] == "<stdin>:2: error 13: budget"
-    stub = script(f'case $1 in calls) [ $2 = 1 ] || sleep 60;; *) exec "{os.environ["UMC"]}" "$@";; esac')
+    stub = script(f'case $1 in calls) [ $2 = 1 ] || sleep 1000;; *) exec "{os.environ["UMC"]}" "$@";; esac')
     found = um("table", VEHICLE, "mean", "-", "--limit-time", "0.5", stdin="l\n[1<m>]\n", UMC=str(stub))
     assert (found.status, found.err) == (124, "um: the run took more than 0.5 s (--limit-time)\n")
 
@@ -286,22 +286,19 @@ def test_it_ends_quietly_when_nobody_reads_the_results(tmp_path):
     assert um.stdout.readline() == b"mass [kg],speed [m/s],note,kinetic [kg m^2/s^2]\n"
     um.stdout.close()
     assert um.stderr.read() == b""
-    assert um.wait(timeout=60) == -signal.SIGPIPE
+    assert um.wait(timeout=WAIT) == -signal.SIGPIPE
 
 
 def test_a_file_of_results_is_left_as_it_was_when_a_signal_comes(tmp_path, script):
     data, out = tmp_path / "data.csv", tmp_path / "out.csv"
     data.write_text(MOTION)
     out.write_text("before\n")
-    stub = script(f'case $1 in calls) [ $2 = 1 ] || {{ touch {tmp_path}/begun; exec sleep 60; }};; '
+    stub = script(f'case $1 in calls) [ $2 = 1 ] || {{ touch {tmp_path}/begun; exec sleep 1000; }};; '
                   f'*) exec "{os.environ["UMC"]}" "$@";; esac')
     um = subprocess.Popen([sys.executable, UM, "table", VEHICLE, "kinetic", data, "-o", out], cwd=HOME,
                           env={**os.environ, "UMC": str(stub)})
-    for _ in range(3000):
-        if (tmp_path / "begun").exists():
-            break
-        time.sleep(0.02)
+    wait_for((tmp_path / "begun").exists, "the run")
     um.send_signal(signal.SIGINT)
-    assert um.wait(timeout=60) == -signal.SIGINT
+    assert um.wait(timeout=WAIT) == -signal.SIGINT
     assert out.read_text() == "before\n"
     assert sorted(path.name for path in tmp_path.iterdir()) == ["begun", "data.csv", "out.csv", "script"]

@@ -8,9 +8,10 @@ import threading
 from pathlib import Path
 from typing import Any
 
+from waiting import WAIT
+
 Json = dict[str, Any]
 HOME = Path(__file__).resolve().parents[3]
-WAIT = 60.0
 CAPABILITIES: Json = {"textDocument": {"publishDiagnostics": {"relatedInformation": True},
                                        "hover": {"contentFormat": ["markdown", "plaintext"]},
                                        "signatureHelp": {"signatureInformation": {
@@ -45,9 +46,17 @@ class Client:
         self.version = 0
         threading.Thread(target=self._read, daemon=True).start()
         if begin:
+            self._begin(capabilities)
+
+    def _begin(self, capabilities: Json) -> None:
+        """Begins the session. A server that refuses it is ended."""
+        try:
             self.server = self.request("initialize", {"processId": None, "rootUri": None,
                                                       "capabilities": capabilities})
-            self.notify("initialized", {})
+        except BaseException:
+            self.kill()
+            raise
+        self.notify("initialized", {})
 
     def _read(self) -> None:
         source = self.process.stdout

@@ -7,6 +7,9 @@
 (require 'json)
 (require 'um-mode)
 
+(defconst test-patience 300
+  "Seconds.  Nothing takes as long unless it hangs, also on a machine that has much else to do.")
+
 (defun test-read (name)
   "The JSON in the file that the variable NAME of the environment names."
   (let ((json-array-type 'list))
@@ -36,7 +39,7 @@
 
 (defun test-wait (what test)
   "Wait until TEST gives something, for WHAT."
-  (let ((end (+ (float-time) 60)) found)
+  (let ((end (+ (float-time) test-patience)) found)
     (while (not (or (setq found (funcall test)) (> (float-time) end)))
       (accept-process-output nil 0.05))
     (or found (error "It took too long: %s" what))))
@@ -60,7 +63,8 @@
       (search-forward use)
       (goto-char (match-beginning 0))
       (setq hover (plist-get (plist-get (jsonrpc-request (eglot--current-server-or-lose) :textDocument/hover
-                                                         (eglot--TextDocumentPositionParams))
+                                                         (eglot--TextDocumentPositionParams)
+                                                         :timeout test-patience)
                                         :contents)
                              :value)))
     (list (cons 'diagnostics diagnostics) (cons 'hover hover))))
@@ -80,12 +84,12 @@
        (server (cdr (assq 'server plan))))
   (when (and server (require 'eglot nil t))
     (setq um-command server
-          eglot-sync-connect 60
-          eglot-connect-timeout 60)
+          eglot-sync-connect test-patience
+          eglot-connect-timeout test-patience)
     (dolist (asked (cdr (assq 'asked plan)))
       (find-file (car asked))
       (push (cons (intern (concat "server:" (car asked))) (test-server (cadr asked))) results)
-      (eglot-shutdown (eglot-current-server))
+      (eglot-shutdown (eglot-current-server) nil test-patience)
       (kill-buffer)))
   (with-temp-file (getenv "UM_RESULTS")
     (insert (json-encode results))))

@@ -1,7 +1,13 @@
 -- Drives Neovim for test_lsp_neovim.py: opens files with the language server and writes down what it shows.
 -- The plan is a JSON file that UM_PLAN names: a list of files with places, each a line and a byte, counted from 1 and
 -- 0. The results go to the file that UM_RESULTS names.
-local WAIT = 60000
+local WAIT = 300000
+
+-- The keys that go to a declaration wait for a second, which is too little on a machine that has much else to do.
+local ask = vim.lsp.buf_request_sync
+vim.lsp.buf_request_sync = function(buffer, method, params)
+  return ask(buffer, method, params, WAIT)
+end
 
 local function waited(what, test)
   assert(vim.wait(WAIT, test, 10), "it took too long: " .. what)

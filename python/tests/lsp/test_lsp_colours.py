@@ -11,8 +11,8 @@ from pathlib import Path
 import pytest
 from lsp.client import HOME
 from lsp.samples import EXAMPLES
+from waiting import WAIT
 
-WAIT = 100
 FILES = [*sorted(EXAMPLES.glob("*.um")), *sorted((HOME / "library").glob("*.um"))]
 RARE = """// é [<Measure>] type no
 [<Measure>] type mètre

@@ -10,9 +10,9 @@ from typing import Any
 import pytest
 from lsp.client import HOME
 from lsp.samples import EXAMPLES, REFUSED
+from waiting import WAIT
 
 HERE = Path(__file__).resolve().parent
-WAIT = 300
 FILES = sorted(path.name for path in EXAMPLES.glob("*.um"))
 TEXT = """// é [<Measure>] type no
 [<Measure>] type mètre
@@ -40,7 +40,7 @@ def results(tmp_path_factory: pytest.TempPathFactory) -> dict[str, Any]:
     (folder / "plan.json").write_text(json.dumps(plan))
     done = subprocess.run(
         ["emacs", "--batch", "-L", str(HOME / "editors/emacs"), "--eval", "(package-initialize)",
-         "-l", str(HERE / "emacs.el")], capture_output=True, text=True, timeout=WAIT, cwd=folder,
+         "-l", str(HERE / "emacs.el")], capture_output=True, text=True, timeout=3 * WAIT, cwd=folder,
         env={**os.environ, "HOME": str(folder), "UM_PLAN": str(folder / "plan.json"),
              "UM_RESULTS": str(folder / "results.json"), "LC_ALL": "C.UTF-8"})
     assert (folder / "results.json").exists(), done.stderr

@@ -10,9 +10,9 @@ from typing import Any
 import pytest
 from lsp.client import HOME, answer
 from lsp.samples import EVERY, MARKED, REFUSED, Example, Refused
+from waiting import WAIT
 
 HERE = Path(__file__).resolve().parent
-WAIT = 300
 
 # All files are opened by one Neovim, with a program that has all that is looked at.
 pytestmark = [pytest.mark.skipif(shutil.which("nvim") is None, reason="Debian's neovim isn't installed"),
@@ -51,7 +51,7 @@ def shown(tmp_path_factory: pytest.TempPathFactory) -> dict[str, Any]:
          "-c", f"luafile {HERE / 'neovim.lua'}"],
         env={**os.environ, "UM_PLAN": str(folder / "plan.json"), "UM_RESULTS": str(folder / "results.json"),
              "XDG_STATE_HOME": str(folder), "XDG_CACHE_HOME": str(folder), "NVIM_LOG_FILE": str(folder / "log")},
-        capture_output=True, text=True, timeout=WAIT)
+        capture_output=True, text=True, timeout=3 * WAIT)
     assert (folder / "results.json").exists(), done.stderr
     results = json.loads((folder / "results.json").read_text())
     return {Path(name).name: result for name, result in results.items()}

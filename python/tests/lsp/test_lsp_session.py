@@ -1,12 +1,12 @@
 """The session: its beginning and end, texts that change, requests that are dropped, and what can't be read."""
+import os
 import signal
-import stat
-import time
 from collections.abc import Callable
 from pathlib import Path
 
 import pytest
 from lsp.client import HOME, Client, Failed, Json, answer, position
+from waiting import WAIT, wait_for
 
 NOT_INITIALIZED, INVALID_REQUEST, METHOD_NOT_FOUND, INVALID_PARAMS = -32002, -32600, -32601, -32602
 CONTENT_MODIFIED, CANCELLED, REQUEST_FAILED = -32801, -32800, -32803
@@ -38,14 +38,14 @@ def test_nothing_but_messages_on_standard_output(client: Client) -> None:
 
 def test_exit_without_shutdown_is_1(client: Client) -> None:
     client.notify("exit", {})
-    assert client.process.wait(20) == 1
+    assert client.process.wait(WAIT) == 1
 
 
 def test_a_client_that_hangs_up(client: Client) -> None:
     client.open("let f = 1")
     assert client.process.stdin
     client.process.stdin.close()
-    assert client.process.wait(20) == 1
+    assert client.process.wait(WAIT) == 1
 
 
 def test_requests_before_the_session(start: Start) -> None:
@@ -91,7 +91,7 @@ def test_messages_that_are_none(client: Client) -> None:
 
 def test_there_is_no_program(start: Start) -> None:
     client = start(begin=False, UMC="/there/is/none")
-    assert client.process.wait(20) == 69
+    assert client.process.wait(WAIT) == 69
     assert client.process.stderr and b"UMC=/there/is/none: there is no such program" in client.process.stderr.read()
 
 
@@ -197,23 +197,15 @@ def test_any_text_is_answered(client: Client, text: str) -> None:
 # ---- requests that are dropped
 
 @pytest.fixture
-def slow(tmp_path: Path, script: Callable[[str], Path]) -> Callable[[float], Path]:
-    """A program that takes so many seconds to answer a text with the word slow in it."""
-    def make(seconds: float) -> Path:
-        path = tmp_path / "slow"
-        path.write_text(f"#!/bin/sh\ncat > {tmp_path}/$$\ngrep -q slow {tmp_path}/$$ && sleep {seconds}\n"
-                        f"exec {answer_of()} \"$@\" < {tmp_path}/$$\n")
-        path.chmod(path.stat().st_mode | stat.S_IXUSR)
-        return path
-
-    def answer_of() -> str:
-        import os
-        return os.environ["UMC"]
-    return make
+def slow(tmp_path: Path, script: Callable[[str], Path]) -> Path:
+    """A program that answers a text with the word slow in it once there is a file `go` beside it."""
+    return script(f"cat > {tmp_path}/$$\ngrep -q slow {tmp_path}/$$ && touch {tmp_path}/begun && "
+                  f"while [ ! -e {tmp_path}/go ]; do sleep 0.05; done\n"
+                  f"exec {os.environ['UMC']} \"$@\" < {tmp_path}/$$")
 
 
-def test_an_older_request_is_dropped(start: Start, slow: Callable[[float], Path]) -> None:
-    client = start(UMC=str(slow(1000)))
+def test_an_older_request_is_dropped(start: Start, slow: Path) -> None:
+    client = start(UMC=str(slow))
     text = client.open("let slow = 1")
     asked = client.ask("textDocument/hover", {**text.identity, "position": text.place("slow")})
     text.replace("let quick = 1")
@@ -225,11 +217,13 @@ def test_an_older_request_is_dropped(start: Start, slow: Callable[[float], Path]
     assert not [note for note in client.notes if note["method"] == "textDocument/publishDiagnostics"]
 
 
-def test_a_request_that_is_taken_back(start: Start, slow: Callable[[float], Path]) -> None:
-    client = start(UMC=str(slow(1)))
+def test_a_request_that_is_taken_back(start: Start, slow: Path) -> None:
+    client = start(UMC=str(slow))
     text = client.open("let slow = 1")
     asked = client.ask("textDocument/hover", {**text.identity, "position": text.place("slow")})
     client.notify("$/cancelRequest", {"id": asked})
+    text.ask("documentHighlight", "slow")   # the server reads one message after the other
+    (slow.parent / "go").touch()
     with pytest.raises(Failed) as failed:
         client.answer(asked)
     assert failed.value.code == CANCELLED
@@ -237,8 +231,8 @@ def test_a_request_that_is_taken_back(start: Start, slow: Callable[[float], Path
     assert "slow : num" in text.ask("hover", "slow")["contents"]["value"]
 
 
-def test_the_end_stops_the_program(start: Start, slow: Callable[[float], Path]) -> None:
-    client = start(UMC=str(slow(1000)))
+def test_the_end_stops_the_program(start: Start, slow: Path) -> None:
+    client = start(UMC=str(slow))
     client.open("let slow = 1")
     assert client.end() == 0
 
@@ -296,12 +290,12 @@ def test_a_file_of_the_library_that_is_open_itself(start: Start, program: Callab
 
 def test_a_file_before_that_isnt_there(start: Start) -> None:
     client = start("--with", "./nowhere.um", begin=False)
-    assert client.process.wait(20) == 66
+    assert client.process.wait(WAIT) == 66
 
 
-def test_a_signal_ends_the_server_and_its_program(start: Start, slow: Callable[[float], Path]) -> None:
-    client = start(UMC=str(slow(1000)))
+def test_a_signal_ends_the_server_and_its_program(start: Start, slow: Path) -> None:
+    client = start(UMC=str(slow))
     client.open("let slow = 1")
-    time.sleep(0.5)
+    wait_for((slow.parent / "begun").exists, "the program")
     client.process.terminate()
-    assert client.process.wait(20) == -signal.SIGTERM
+    assert client.process.wait(WAIT) == -signal.SIGTERM

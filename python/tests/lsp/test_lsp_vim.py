@@ -10,8 +10,8 @@ from typing import Any
 import pytest
 from lsp.client import HOME, answer
 from lsp.samples import EXAMPLES, REFUSED, Refused
+from waiting import WAIT
 
-WAIT = 100
 FILES = sorted(path.name for path in EXAMPLES.glob("*.um"))
 Vim = Callable[..., Any]
 

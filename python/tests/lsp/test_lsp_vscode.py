@@ -12,6 +12,7 @@ from pathlib import Path
 import pytest
 from lsp.client import HOME, answer
 from lsp.samples import EXAMPLES, REFUSED, Refused
+from waiting import WAIT
 
 CODE = HOME / "editors/vscode"
 PACKAGE = json.loads((CODE / "package.json").read_text())
@@ -54,7 +55,7 @@ def extension(**settings: object) -> dict[str, object]:
     """What the extension does when it is activated, started anew and ended."""
     script = STAND_INS.replace("SETTINGS", json.dumps(settings))
     done = subprocess.run(["node", "-e", script, str(CODE / "extension.js")], capture_output=True, text=True,
-                          timeout=60)
+                          timeout=WAIT)
     assert done.returncode == 0, done.stderr
     found: dict[str, object] = json.loads(done.stdout)
     return found
