@@ -2,6 +2,7 @@ pub mod Lines
 pub mod Trimmed
 pub mod Beside
 pub mod GapLines
+pub mod BlankLines
 pub mod Encoded
 pub mod Printed
 pub mod GapsAgain

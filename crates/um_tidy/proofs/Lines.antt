@@ -1,8 +1,9 @@
 -- The lines of a gap, one at a time.
-use Rattle.std.proofs.Common.{◌≡◌, refl, sym, ap, ◌∙◌, ℕ, suc, ◌+◌, ◌-◌, ◌<◌, Bool, true, false, cond, not, List, [], ◌∷◌, ◌++◌, length, take, drop, append_assoc, arith}
-use Rattle.std.proofs.lemmas.List.{append-nil, drop-drop, length-drop, take_all}
+use Rattle.std.proofs.Common.{◌≡◌, refl, sym, ap, ◌∙◌, ℕ, suc, ◌+◌, ◌-◌, ◌<◌, Bool, true, false, cond, not, List, [], ◌∷◌, ◌++◌, length, take, drop, get_or, append_assoc, Some, None, arith}
+use Rattle.std.proofs.lemmas.List.{append-nil, length-drop, take_all}
+use Rattle.std.proofs.lemmas.List.Sums.{prefix_len_is}
 use Rattle.std.specs.List.{prefix_len}
-use Rattle.std.specs.Prelude.{slice_range}
+use Rattle.memchr.specs.Find.{IsFirstByte, is_byte}
 use Rattle.um_syntax.specs.LineColumn.{is_line_feed}
 use Rattle.um_tidy.specs.declared.gap.Above.{Above}
 use Rattle.um_tidy.specs.declared.gap.Above.TheVariants as above
@@ -44,9 +45,45 @@ cut_at xs n is some =
     let next : suc n ≡ n + 1 = omega arith in
     first_line xs (omega (arith, is, some)) ∙ ap (λ k. take k xs ∷ lines (drop (suc k) xs)) (sym is) ∙ ap (λ k. take n xs ∷ lines (drop k xs)) next
 
+-- ---- where the line feeds stand
+
+pub other_byte : (c : ℕ) → (is_line_feed c ≡ true → ⊥) → in_line c ≡ true
+other_byte c none = by (is_line_feed c) none
+  where
+    by : (b : Bool) → (b ≡ true → ⊥) → not b ≡ true
+    by true n = absurd (n refl)
+    by false n = refl
+
+-- without one, the first line is all
+pub no_line_feed : (xs : List ℕ) → IsFirstByte (is_byte 10) xs None → prefix_len in_line xs ≡ length xs
+no_line_feed xs none = prefix_len_is in_line xs (length xs) 0 (omega arith) (λ k less. other_byte (get_or xs k 0) (none k (omega arith) less)) (λ less. absurd (omega (arith, less)))
+
+-- what stands before the first one
+pub line_feed_at : (xs : List ℕ) (n : ℕ) → IsFirstByte (is_byte 10) xs (Some n) → prefix_len in_line xs ≡ n
+line_feed_at xs n (first, here) =
+    let within = first.high in
+    prefix_len_is in_line xs n 0 (omega (arith, within)) (λ k less. other_byte (get_or xs k 0) (first.before k (omega arith) less)) (λ less. ap not here)
+
 -- the rest of a list as a part of it
 pub tail_all : (xs : List ℕ) (n : ℕ) → take (length xs - n) (drop n xs) ≡ drop n xs
 tail_all xs n = let fewer = length-drop n xs in take_all (length xs - n) (drop n xs) (omega (arith, fewer))
+
+-- the same from a place on
+module _ (xs : List ℕ) (from : ℕ) where
+  pub no_feed_after : IsFirstByte (is_byte 10) (take (length xs - from) (drop from xs)) None → prefix_len in_line (drop from xs) ≡ length (drop from xs)
+  no_feed_after none =
+      let rest = tail_all xs from in
+      sym (ap (prefix_len in_line) rest) ∙ no_line_feed (take (length xs - from) (drop from xs)) none ∙ ap length rest
+
+  pub feed_after : (len : ℕ) → IsFirstByte (is_byte 10) (take (length xs - from) (drop from xs)) (Some len) → prefix_len in_line (drop from xs) ≡ len
+  feed_after len at = sym (ap (prefix_len in_line) (tail_all xs from)) ∙ line_feed_at (take (length xs - from) (drop from xs)) len at
+
+  pub feed_within : (len : ℕ) → IsFirstByte (is_byte 10) (take (length xs - from) (drop from xs)) (Some len) → from + len < length xs
+  feed_within len (first, here) =
+      let within = first.high in
+      let same = ap length (tail_all xs from) in
+      let fewer = length-drop from xs in
+      omega (arith, within, same, fewer)
 
 -- there is a line
 pub record IsAny (ls : List (List ℕ)) : Type 0 where
@@ -74,29 +111,21 @@ line_and_more last a line xs =
 
 -- ---- a loop over the lines
 
-module _ (last : Above → List ℕ → List ℕ) (a : Above) (text whole gap : List ℕ) (from len : ℕ) where
-  pub lines_step : (next : Above) (more : List ℕ) → len ≡ prefix_len in_line (drop from gap) → from + len < length gap → more ≡ text ++ own_line a (slice_range gap from (from + len)) → next ≡ below a (comment (slice_range gap from (from + len)))
-      → text ++ each_line last a (lines (drop from gap)) ≡ whole → more ++ each_line last next (lines (drop (from + (len + 1)) gap)) ≡ whole
-  lines_step next more is some added goes so_far =
-      let rest = drop from gap in
-      let line = slice_range gap from (from + len) in
-      let past = lines (drop (from + (len + 1)) gap) in
-      let fewer = length-drop from gap in
-      let same : take len rest ≡ line = ap (λ n. take n rest) (omega arith) in
-      let cut : lines rest ≡ line ∷ past = cut_at rest len is (omega (arith, is, some, fewer)) ∙ ap (λ l. l ∷ lines (drop (len + 1) rest)) same ∙ ap (λ xs. line ∷ lines xs) (drop-drop (len + 1) from gap) in
-      let split : each_line last a (lines rest) ≡ own_line a line ++ each_line last (below a (comment line)) past = ap (each_line last a) cut ∙ line_and_more last a line (drop (from + (len + 1)) gap) in
+module _ (last : Above → List ℕ → List ℕ) (a : Above) (text whole rest : List ℕ) where
+  pub lines_step : (len : ℕ) (next : Above) (more : List ℕ) → len ≡ prefix_len in_line rest → len < length rest → more ≡ text ++ own_line a (take len rest) → next ≡ below a (comment (take len rest))
+      → text ++ each_line last a (lines rest) ≡ whole → more ++ each_line last next (lines (drop (len + 1) rest)) ≡ whole
+  lines_step len next more is some added goes so_far =
+      let line = take len rest in
+      let past = lines (drop (len + 1) rest) in
+      let split : each_line last a (lines rest) ≡ own_line a line ++ each_line last (below a (comment line)) past = ap (each_line last a) (cut_at rest len is some) ∙ line_and_more last a line (drop (len + 1) rest) in
       ap (λ xs. xs ++ each_line last next past) added
       ∙ ap (λ b. (text ++ own_line a line) ++ each_line last b past) goes
       ∙ append_assoc text (own_line a line) (each_line last (below a (comment line)) past)
       ∙ ap (λ xs. text ++ xs) (sym split)
       ∙ so_far
 
-  pub lines_end : len ≡ prefix_len in_line (drop from gap) → from + len ≡ length gap → text ++ each_line last a (lines (drop from gap)) ≡ whole → text ++ last a (drop from gap) ≡ whole
-  lines_end is past so_far =
-      let rest = drop from gap in
-      let fewer = length-drop from gap in
-      let one : lines rest ≡ rest ∷ [] = one_line rest (omega (arith, is, past, fewer)) in
-      ap (λ ls. text ++ each_line last a ls) (sym one) ∙ so_far
+  pub lines_end : prefix_len in_line rest ≡ length rest → text ++ each_line last a (lines rest) ≡ whole → text ++ last a rest ≡ whole
+  lines_end one so_far = ap (λ ls. text ++ each_line last a ls) (sym (one_line rest one)) ∙ so_far
 
 -- ---- gaps
 

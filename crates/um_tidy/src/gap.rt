@@ -1,5 +1,6 @@
 // What becomes of the white space and the comments between tokens.
-ghost use Rattle.std.specs.Prelude.{◌≡◌, ◌≤◌, ◌++◌, ◌∷◌, [], List, ℕ, OnOk, IfOk, cond, length, take, drop};
+ghost use Rattle.std.specs.Prelude.{◌≡◌, ◌≤◌, ◌<◌, ◌+◌, ◌++◌, ◌∷◌, [], List, ℕ, cond, length, take, drop};
+ghost use Rattle.std.specs.Prelude.{OnOk, IfOk, IfSome, MatchOption};
 ghost use Rattle.std.specs.List.{prefix_len};
 ghost use Rattle.um_syntax.specs.Gap.{is_space};
 ghost use Rattle.um_tidy.specs.declared.gap.Above.{Above};
@@ -7,6 +8,7 @@ ghost use Rattle.um_tidy.specs.Gaps.{in_line, lines, trimmed, comment, width_fro
 ghost use Rattle.um_tidy.specs.Gaps.{past_blank, own_line, below, each_line, indentation, before_token, comment_after};
 ghost use Rattle.um_tidy.specs.Gaps.{line_end, first_gap, inner_gap, last_gap, only_gap};
 
+use memchr::{memchr, memrchr};
 use std::alloc::AllocError;
 
 /// What stands above a line.
@@ -20,11 +22,15 @@ pub enum Above {
     Blank,
 }
 
-/// Where the last line of a gap begins, and what stands above it.
+/// A line of a gap.
 #[derive(Clone, Copy)]
-struct Last {
+struct Line<'a> {
+    /// What stands above it.
     above: Above,
-    from: usize,
+    /// The line, and those after it.
+    rest: &'a [u8],
+    /// How many bytes of white space stand at its front.
+    margin: usize,
 }
 
 /// Adds what stands before the first token.
@@ -87,7 +93,7 @@ fn push_to_token(
 {
     let last = push_lines(text, above, gap)?;
     push_blank_line(text, last.above)?;
-    push_indentation(text, begins, &gap[last.from..])
+    push_indentation(text, begins, last.rest, last.margin)
 }
 
 /// Adds lines, none of which holds a token.
@@ -96,41 +102,72 @@ fn push_to_end(text: &mut Vec<u8>, above: Above, gap: &[u8]) -> Result<(), Alloc
     ensures { OnOk result (text.new.items ≡ text.old.items ++ each_line own_line above (lines gap.now)) }
 {
     let last = push_lines(text, above, gap)?;
-    push_own_line(text, last.above, &gap[last.from..])?;
+    push_own_line(text, last.above, last.rest, last.margin)?;
     Ok(())
 }
 
-/// Adds all lines but the last.
-fn push_lines(text: &mut Vec<u8>, above: Above, gap: &[u8]) -> Result<Last, AllocError>
+/// Adds all lines but the last, and tells that one.
+fn push_lines<'a>(text: &mut Vec<u8>, above: Above, gap: &'a [u8]) -> Result<Line<'a>, AllocError>
     requires { length gap.now ≤ 1048576 }
-    ensures within { IfOk result (λ l. l.from ≤ length gap.now) }
+    ensures size { IfOk result (λ l. length l.rest.now ≤ length gap.now) }
+    ensures within { IfOk result (λ l. l.margin ≤ length l.rest.now) }
+    ensures margin { IfOk result (λ l. l.margin ≡ prefix_len is_space l.rest.now) }
     ensures added { IfOk result (λ l. (last : Above → List ℕ → List ℕ)
-        → text.new.items ++ last l.above (drop l.from gap.now)
+        → text.new.items ++ last l.above l.rest.now
         ≡ text.old.items ++ each_line last above (lines gap.now)) }
 {
-    let mut above = above;
-    let mut from = 0;
-    let mut len = line_len(gap);
-    while from + len < gap.len() {
-        above = push_own_line(text, above, &gap[from..from + len])?;
-        from += len + 1;
-        len = line_len(&gap[from..]);
+    let mut line = past_blank_lines(above, gap);
+    'lines: while let Some(end) = line_feed(line.rest, line.margin) {
+        let above = push_own_line(text, line.above, &line.rest[..end], line.margin)?;
+        line = past_blank_lines(above, &line.rest[end + 1..]);
     }
-    Ok(Last { above, from })
+    Ok(line)
+}
+
+/// The first line that isn't blank, or the last one.
+fn past_blank_lines(above: Above, gap: &[u8]) -> Line<'_>
+    ensures size { length result.rest.now ≤ length gap.now }
+    ensures within { result.margin ≤ length result.rest.now }
+    ensures margin { result.margin ≡ prefix_len is_space result.rest.now }
+    ensures line { prefix_len in_line result.rest.now
+        ≡ result.margin + prefix_len in_line (drop result.margin result.rest.now) }
+    ensures lines { (last : Above → List ℕ → List ℕ)
+        → each_line last result.above (lines result.rest.now) ≡ each_line last above (lines gap.now) }
+{
+    let margin = margin_len(gap);
+    match memrchr(b'\n', &gap[..margin]) {
+        Some(at) => Line {
+            above: past_blank(above),
+            rest: &gap[at + 1..],
+            margin: margin - (at + 1),
+        },
+        None => Line {
+            above,
+            rest: gap,
+            margin,
+        },
+    }
 }
 
 /// Adds a line without a token, and tells what stands above the next line.
-fn push_own_line(text: &mut Vec<u8>, above: Above, line: &[u8]) -> Result<Above, AllocError>
-    requires { length line.now ≤ 1048576 }
+fn push_own_line(
+    text: &mut Vec<u8>,
+    above: Above,
+    line: &[u8],
+    margin: usize,
+) -> Result<Above, AllocError>
+    requires short { length line.now ≤ 1048576 }
+    requires within { margin ≤ length line.now }
+    requires margin { margin ≡ prefix_len is_space line.now }
     ensures above { IfOk result (λ next. next ≡ below above (comment line.now)) }
     ensures added { OnOk result (text.new.items ≡ text.old.items ++ own_line above line.now) }
 {
-    let comment = comment_of(line);
+    let comment = comment_of(line, margin);
     if comment.is_empty() {
         return Ok(past_blank(above));
     }
     push_blank_line(text, above)?;
-    push_spaces(text, indent(line))?;
+    push_spaces(text, indent(line, margin))?;
     text.extend_from_slice(comment)?;
     text.push(b'\n')?;
     Ok(Above::Line)
@@ -140,7 +177,7 @@ fn push_own_line(text: &mut Vec<u8>, above: Above, line: &[u8]) -> Result<Above,
 fn push_line_end(text: &mut Vec<u8>, line: &[u8]) -> Result<(), AllocError>
     ensures { OnOk result (text.new.items ≡ text.old.items ++ line_end line.now) }
 {
-    let comment = comment_of(line);
+    let comment = comment_of(line, margin_len(line));
     push_comment_after(text, comment)?;
     text.extend_from_slice(b"\n")
 }
@@ -175,14 +212,21 @@ fn push_space(text: &mut Vec<u8>, spaced: bool) -> Result<(), AllocError>
 }
 
 /// Adds the indentation of a line with a token.
-fn push_indentation(text: &mut Vec<u8>, begins: bool, line: &[u8]) -> Result<(), AllocError>
-    requires { length line.now ≤ 1048576 }
+fn push_indentation(
+    text: &mut Vec<u8>,
+    begins: bool,
+    line: &[u8],
+    margin: usize,
+) -> Result<(), AllocError>
+    requires short { length line.now ≤ 1048576 }
+    requires within { margin ≤ length line.now }
+    requires margin { margin ≡ prefix_len is_space line.now }
     ensures { OnOk result (text.new.items ≡ text.old.items ++ indentation begins line.now) }
 {
     if begins {
         return Ok(());
     }
-    push_spaces(text, indent(line).max(2))
+    push_spaces(text, indent(line, margin).max(2))
 }
 
 fn push_spaces(text: &mut Vec<u8>, n: usize) -> Result<(), AllocError>
@@ -204,10 +248,12 @@ fn past_blank(above: Above) -> Above
 }
 
 /// The comment of a line that has no token, or nothing.
-fn comment_of(line: &[u8]) -> &[u8]
+fn comment_of(line: &[u8], margin: usize) -> &[u8]
+    requires within { margin ≤ length line.now }
+    requires margin { margin ≡ prefix_len is_space line.now }
     ensures { result.now ≡ comment line.now }
 {
-    let rest = &line[margin_len(line)..];
+    let rest = &line[margin..];
     &rest[..trimmed_len(rest)]
 }
 
@@ -216,11 +262,24 @@ fn line_len(bytes: &[u8]) -> usize
     ensures within { result ≤ length bytes.now }
     ensures len { result ≡ prefix_len in_line bytes.now }
 {
-    let mut len = 0;
-    while len < bytes.len() && bytes[len] != b'\n' {
-        len += 1;
+    match line_feed(bytes, 0) {
+        Some(at) => at,
+        None => bytes.len(),
     }
-    len
+}
+
+/// Where the first line feed stands from this place on.
+fn line_feed(bytes: &[u8], from: usize) -> Option<usize>
+    requires { from ≤ length bytes.now }
+    ensures within { IfSome result (λ at. (from ≤ at) × (at < length bytes.now)) }
+    ensures first { MatchOption result
+        (prefix_len in_line (drop from bytes.now) ≡ length (drop from bytes.now))
+        (λ at. from + prefix_len in_line (drop from bytes.now) ≡ at) }
+{
+    match memchr(b'\n', &bytes[from..]) {
+        Some(len) => Some(from + len),
+        None => None,
+    }
 }
 
 /// How much white space stands at the front.
@@ -249,11 +308,13 @@ fn trimmed_len(bytes: &[u8]) -> usize
 }
 
 /// The columns that the white space at the front takes.
-fn indent(line: &[u8]) -> usize
-    requires { length line.now ≤ 1048576 }
+fn indent(line: &[u8], margin: usize) -> usize
+    requires short { length line.now ≤ 1048576 }
+    requires within { margin ≤ length line.now }
+    requires margin { margin ≡ prefix_len is_space line.now }
     ensures { result ≡ indent line.now }
 {
-    width(&line[..margin_len(line)])
+    width(&line[..margin])
 }
 
 /// The columns that white space takes.

@@ -1,29 +1,64 @@
-use Rattle.std.proofs.Common.{ap, ◌∙◌, ◌+◌, drop, arith}
-use Rattle.std.proofs.lemmas.List.{length-drop}
-use Rattle.std.proofs.lemmas.List.Sums.{prefix_len-le-length}
+use Rattle.std.proofs.Common.{◌≡◌, sym, ap, ◌∙◌, ◌+◌, ◌++◌, length, drop, arith}
 use Rattle.std.specs.List.{prefix_len}
-use Rattle.um_tidy.specs.Gaps.{in_line}
+use Rattle.std.proofs.lemmas.List.{length-drop}
+use Rattle.um_syntax.specs.Gap.{is_space}
+use Rattle.um_tidy.specs.Gaps.{in_line, lines, each_line}
 use Rattle.um_tidy.proofs.Lines.{tail_all, lines_step, lines_end}
+use Rattle.um_tidy.proofs.BlankLines.{prefix_taken}
 use Rattle.um_tidy.proofs.gap.push_lines.Goals as goal
 
-pub overflow_add-from : goal.overflow_add-from
-overflow_add-from c =
-    let l = c.loop-from in
-    let rest = drop l.from c.args.gap.now in
-    omega (arith, c.requires, l.invariant.within, l.invariant.line, prefix_len-le-length in_line rest, length-drop l.from c.args.gap.now)
-
-pub loop-from-preserved : goal.loop-from-preserved
-loop-from-preserved c =
-    let l = c.loop-from in
-    let gap = c.args.gap.now in
+pub lines-init : goal.lines-init
+lines-init c =
+    let first = c.past_blank_lines-line.ensures in
     record {
-      within = omega (arith, c.loop-from-test.true);
-      line = c.line_len-len-in-loop-from.ensures.len ∙ ap (prefix_len in_line) (tail_all gap (l.from + (l.len + 1)));
-      added = λ last. lines_step last l.above l.text.items _ gap l.from l.len c.in_ok-above.above c.push_own_line.new.text.items l.invariant.line (omega (arith, c.loop-from-test.true)) c.in_ok-above.ensures.added c.in_ok-above.ensures.above (l.invariant.added last);
+      size = first.size;
+      within = first.within;
+      margin = first.margin;
+      line = first.line;
+      added = λ last. ap (λ xs. c.args.text.now.items ++ xs) (first.lines last);
+    }
+
+pub push_own_line-requires-clause-margin : goal.push_own_line-requires-clause-margin
+push_own_line-requires-clause-margin c =
+    let l = c.lines in
+    let (after, within) = c.in-Some.ensures.within in
+    l.invariant.margin ∙ sym (prefix_taken is_space l.line.rest.now c.in-Some.end (omega (arith, l.invariant.margin, after)))
+
+pub lines-smaller : goal.lines-smaller
+lines-smaller c =
+    let rest = c.lines.line.rest.now in
+    let end = c.in-Some.end in
+    let (after, within) = c.in-Some.ensures.within in
+    let same = ap length (tail_all rest (end + 1)) in
+    let fewer = length-drop (end + 1) rest in
+    let size = c.past_blank_lines-line-in-Some.ensures.size in
+    omega (arith, within, same, fewer, size)
+
+pub lines-preserved : goal.lines-preserved
+lines-preserved c =
+    let l = c.lines in
+    let rest = l.line.rest.now in
+    let end = c.in-Some.end in
+    let (after, within) = c.in-Some.ensures.within in
+    let same = ap length (tail_all rest (end + 1)) in
+    let fewer = length-drop (end + 1) rest in
+    let next = c.past_blank_lines-line-in-Some.ensures in
+    let size = next.size in
+    let line : end ≡ prefix_len in_line rest = sym (l.invariant.line ∙ c.in-Some.ensures.first) in
+    record {
+      size = omega (arith, within, same, fewer, size, l.invariant.size);
+      within = next.within;
+      margin = next.margin;
+      line = next.line;
+      added = λ last.
+          ap (λ xs. c.push_own_line.new.text.items ++ xs) (next.lines last ∙ ap (λ xs. each_line last c.in_ok-above.above (lines xs)) (tail_all rest (end + 1)))
+          ∙ lines_step last l.line.above l.text.items _ rest end c.in_ok-above.above c.push_own_line.new.text.items line within c.in_ok-above.ensures.added c.in_ok-above.ensures.above (l.invariant.added last);
     }
 
 pub returns-clause-added : goal.returns-clause-added
 returns-clause-added c =
-    let l = c.loop-from in
-    let gap = c.args.gap.now in
-    λ last. lines_end last l.above l.text.items _ gap l.from l.len l.invariant.line (omega (arith, c.loop-from-test.false, l.invariant.within, l.invariant.line, prefix_len-le-length in_line (drop l.from gap), length-drop l.from gap)) (l.invariant.added last)
+    let l = c.lines in
+    let rest = l.line.rest.now in
+    let none : prefix_len in_line (drop l.line.margin rest) ≡ length (drop l.line.margin rest) = rw c.in_default.is at c.line_feed.ensures.first in
+    let fewer = length-drop l.line.margin rest in
+    λ last. lines_end last l.line.above l.text.items _ rest (omega (arith, none, fewer, l.invariant.line, l.invariant.within)) (l.invariant.added last)
