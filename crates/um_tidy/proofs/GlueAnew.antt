@@ -10,7 +10,7 @@ use Rattle.um_tidy.specs.Spaces.{is_spaced}
 use Rattle.um_tidy.specs.Gaps.{inner_gap}
 use Rattle.um_tidy.specs.Laws.{kinds}
 use Rattle.um_tidy.proofs.GapLines.{BeginsBlank, inner_form}
-use Rattle.um_tidy.proofs.Anew.{kinds_more, gap_of, rest_of, moved, tokens_of}
+use Rattle.um_tidy.proofs.Anew.{kinds_more, gap_of, moved, tokens_of}
 use Rattle.um_tidy.proofs.TokensAnew.{first_token, all_of}
 use Rattle.um_tidy.proofs.TidiedAgain.{size_none, blank_size, glued_is}
 
