@@ -15,4 +15,5 @@ pub mod InfixStays
 pub mod PartsStay
 pub mod ExprsStay
 pub mod DeclsStay
+pub mod BareLayouts
 pub mod ProgramStays

@@ -23,3 +23,10 @@ ProgramStays =
     (text : List ℕ) (tokens : List Token) (ds : List DeclSyntax) → IsTextAnswer text (Ok tokens) → IsProgram tokens ds
     → (others : List Token) × (again : List DeclSyntax) × IsTextAnswer (tidied text tokens) (Ok others)
     × IsProgram others again × (bare_program again ≡ bare_program ds)
+
+-- The layout of a text laid out anew is that of the text.
+abbrev pub LayoutStays : Type 0
+LayoutStays =
+    (text : List ℕ) (tokens : List Token) (ds : List DeclSyntax) → IsTextAnswer text (Ok tokens) → IsProgram tokens ds
+    → (others : List Token) × (again : List DeclSyntax) × IsTextAnswer (tidied text tokens) (Ok others)
+    × IsProgram others again × (layout again ≡ layout ds)
