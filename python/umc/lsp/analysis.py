@@ -1,6 +1,8 @@
 """What the program says about one version of a text: its refusal, or the type of each function and of each part."""
+import re
 import threading
 from collections.abc import Callable, Sequence
+from concurrent.futures import ThreadPoolExecutor
 from dataclasses import dataclass, field
 from functools import cached_property
 from typing import Generic, TypeVar
@@ -15,6 +17,9 @@ from umc.reports import Report
 
 Value = TypeVar("Value")
 ROUNDS = 8
+SYNTAX = 5
+# What begins a declaration, at the beginning of a line.
+DECLARATION = re.compile(r"^(?:let|type|\[<)", re.MULTILINE)
 
 
 class Dropped(Exception):
@@ -167,11 +172,28 @@ class Analysis:
         """What `explain` says after the report line and the excerpt; nothing if the program has no such command."""
         if not report.has_explanation or not self.program.has("explain"):
             return []
-        answer = self.ask(["explain"], text)
+        offset = self.offset(report.line or 1, report.column or 1) if report.status == SYNTAX else None
+        answer = self.ask(["explain"], text) if offset is None else self.expected(text, offset)
         first, *lines = answer.output.decode("utf-8", "replace").removesuffix("\n").split("\n")
         if answer.status != 0 or reports.parse(first) != report:
             return []
         return lines[2:] if lines and places.GUTTER.match(lines[0]) else lines
+
+    def expected(self, text: str, offset: int) -> Answer:
+        """What `explain` says of a text of which no program goes on at this offset.
+
+        It tries each word there, and reads all that stands before. What stands before the last declaration can be left
+        out if it is a program by itself, for then that declaration begins another one.
+        """
+        cut = max((found.start() for found in DECLARATION.finditer(text, 0, offset)), default=0)
+        if cut > 0:
+            with ThreadPoolExecutor(1) as pool:
+                before = pool.submit(self.ask, ["fmt"], text[:cut])
+                lines = self.first_line + text.count("\n", 0, cut)
+                answer = self.ask_alone(["explain"], "\n" * lines + text[cut:])
+                if before.result().status == 0:
+                    return answer
+        return self.ask(["explain"], text)
 
     def _parsed(self, output: str, left_out: frozenset[int]) -> Known:
         schemes: dict[str, Scheme] = {}

@@ -139,7 +139,7 @@ def words_at(snapshot: Snapshot, start: int) -> list[str] | None:
     if not analysis.program.has("explain"):
         return None
     for text in (snapshot.text[:start], snapshot.text[:start] + NO_CONTINUATION):
-        answer = analysis.ask(["explain"], text)
+        answer = analysis.expected(text, len(text))
         first, *lines = answer.output.decode("utf-8", "replace").split("\n")
         report = reports.parse(first)
         if report and report.status == 5:

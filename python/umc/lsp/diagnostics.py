@@ -4,6 +4,7 @@ import re
 from umc.lsp.analysis import Refusal
 from umc.lsp.documents import Snapshot
 from umc.lsp.positions import Json
+from umc.lsp.tokens import first, last
 
 ERROR = 1
 SOURCE = "umc"
@@ -70,15 +71,14 @@ def refused_range(snapshot: Snapshot, refusal: Refusal) -> Json:
 
 def token_range(snapshot: Snapshot, offset: int) -> Json:
     """The range of the token that begins at an offset, or of the character there."""
-    reading = snapshot.reading
-    at = reading.index_at(offset)
-    if at >= 0 and reading.tokens[at].start == offset:
-        return snapshot.range(offset, reading.tokens[at].end)
-    if offset < len(snapshot.text):
-        return snapshot.range(offset, offset + (snapshot.text[offset] not in "\r\n"))
-    if reading.tokens and at >= 0:
-        return snapshot.range(reading.tokens[-1].start, reading.tokens[-1].end)
-    return snapshot.range(offset, offset)
+    text = snapshot.text
+    if offset >= len(text):
+        token = last(text)
+        return snapshot.range(token.start, token.end) if token else snapshot.range(offset, offset)
+    token = first(text, offset)
+    if token:
+        return snapshot.range(offset, token.end)
+    return snapshot.range(offset, offset + (text[offset] not in "\r\n"))
 
 
 def _parted(snapshot: Snapshot, refusal: Refusal) -> tuple[list[str], list[Json]]:

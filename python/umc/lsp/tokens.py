@@ -50,6 +50,27 @@ def split(text: str) -> list[Token]:
     return found
 
 
+def first(text: str, at: int) -> Token | None:
+    """The token that begins at an offset; None if white space or a comment stands there."""
+    end = text.find("\n", at)
+    found = split(text[at:end if end >= 0 else len(text)])
+    if not found or found[0].start > 0 or found[0].kind is Kind.COMMENT:
+        return None
+    return found[0]._replace(start=at, end=at + found[0].end)
+
+
+def last(text: str) -> Token | None:
+    """The last token of a text, comments left out. No token goes on in the next line."""
+    end = len(text)
+    while end > 0:
+        start = text.rfind("\n", 0, end) + 1
+        found = [token for token in split(text[start:end]) if token.kind is not Kind.COMMENT]
+        if found:
+            return found[-1]._replace(start=start + found[-1].start, end=start + found[-1].end)
+        end = start - 1
+    return None
+
+
 def _split_from(text: str, at: int, found: list[Token]) -> int | None:
     """Goes on at a place up to the first token that ends earlier than its characters beyond ASCII let it seem."""
     take, kinds, words = found.append, KINDS, WORDS
