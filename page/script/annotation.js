@@ -6,6 +6,8 @@ export class Annotation {
   constructor(text) {
     this.functions = new Map();
     this.types = new Map();
+    // What each measure and abbreviation stands for, once it is known.
+    this.units = new Map();
     for (const line of text.split("\n")) {
       const part = /^ {2}(\d+:\d+) (.*)$/.exec(line);
       if (part) this.types.set(part[1], part[2]);
@@ -19,6 +21,7 @@ export class Annotation {
 }
 
 const NUMBER = /(?<![\p{L}\p{N}\p{M}\p{Pc}])\d+(?:[.r]\d+)?<[^<>]*>/gu;
+const MEASURE = ["entity.name.type.measure", "support.constant.measure"];
 const DECLARED = /(?<![\p{L}\p{N}\p{M}\p{Pc}])let\s+(?:rec\s+)?$/u;
 
 // The part at an offset of a line, as {start, end, text}: what stands there, and its type. A number has its unit with
@@ -31,7 +34,7 @@ export function partAt(annotation, line, number, offset, tokens) {
   const type = annotation.typeAt(number, columnAt(line, start));
   if (type !== undefined) return { start, end, text: `${text} : ${type}` };
   return field(annotation, line, number, token) ?? numberWithUnit(annotation, line, number, offset)
-    ?? declared(annotation, line, number, token);
+    ?? declared(annotation, line, number, token) ?? measure(annotation, line, token);
 }
 
 function field(annotation, line, number, [start, end]) {
@@ -49,6 +52,14 @@ function numberWithUnit(annotation, line, number, offset) {
     return type === undefined ? null : { start, end, text: `${found[0]} : ${type}` };
   }
   return null;
+}
+
+// A measure or an abbreviation, where no number stands before it: what it stands for.
+function measure(annotation, line, [start, end, scope]) {
+  const name = line.slice(start, end);
+  const unit = annotation.units.get(name);
+  if (unit === undefined || !MEASURE.some((beginning) => scope.startsWith(beginning))) return null;
+  return { start, end, text: unit === name ? `${name} : base measure` : `${name} = ${unit}` };
 }
 
 // A function's name at its declaration. The `let` of a local variable is a part with a type, and that of a function is

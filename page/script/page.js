@@ -11,6 +11,7 @@ import { explanationOf, linesOf, placesOf } from "./explanation.js";
 import { Grammar, wordsOfGrammar } from "./grammar.js";
 import { Hover } from "./hover.js";
 import { LONGEST_LINK, opened, packed } from "./links.js";
+import { measuresOf, textWithUnits, unitsOf } from "./measures.js";
 import { placeInWords, placeOf } from "./places.js";
 import { Popup } from "./popup.js";
 import { Questions } from "./questions.js";
@@ -156,7 +157,20 @@ function showExplanation(found, report) {
 function showTypes(found) {
   const answer = decoded(found);
   hover.set(answer === null ? null : new Annotation(answer));
-  if (hover.annotation) ({ functions } = hover.annotation);
+  if (!hover.annotation) return;
+  ({ functions } = hover.annotation);
+  askUnits(hover.annotation);
+}
+
+// Asks what the measures of the text stand for.
+function askUnits(annotation) {
+  const names = source.held ? [] : measuresOf(sheet.lines, (number) => sheet.colours.tokens(number));
+  if (names.length === 0) return;
+  const text = new TextEncoder().encode(textWithUnits(page.text.value, names));
+  questions.put("units", ["types"], text, (found) => {
+    const answer = decoded(found);
+    if (answer !== null) annotation.units = unitsOf(answer, names);
+  });
 }
 
 function offerTrace({ budget, call }) {

@@ -101,6 +101,7 @@ def types_of_parts(page: Page, _: str) -> str | None:
     expect(point(page, 2, 1), None, "what is shown at a word")
     expect(point(page, 5, 13), "2.5<m^2/m> : num<m>", "the type of a number with the pointer on its unit")
     expect(point(page, 6, 1), "x : num<m>", "the type after a tab")
+    expect(point(page, 4, 14), "m : base measure", "what a measure stands for")
     page.key("Escape", 27)
     expect(page.value("document.getElementById('tip').hidden"), True, "that Escape hides it")
     expect(cursor(page, text[:text.index("* ")]), "* : num<m^2>", "the type at the cursor")

@@ -5,6 +5,7 @@ import { Annotation, partAt } from "../script/annotation.js";
 import { explanationOf, linesOf, placesOf } from "../script/explanation.js";
 import { Colours } from "../script/colours.js";
 import { Grammar } from "../script/grammar.js";
+import { measuresOf, textWithUnits, unitsOf } from "../script/measures.js";
 import { columnAt, offsetInLine, pieces, placeInWords, placeOf, rangeOf } from "../script/places.js";
 import { GRAMMAR, answer, textOf } from "./program.js";
 
@@ -89,4 +90,30 @@ test("the part at an offset has its type", () => {
   assert.equal(at(3, 4), "f : P<m> -> num -> num<m>");
   assert.equal(at(6, 4), "g : bool");
   assert.equal(at(6, 40), undefined);
+});
+
+test("a measure is shown with what it stands for", () => {
+  const text = "[<Measure>] type kg\n[<Measure>] type m\n[<Measure>] type s\n[<Measure>] type N = kg m / s^2\n"
+    + "[<Measure>] type one = m / m\nlet unit (x: num<N m>) (y: num<one>) = x // N";
+  const colours = new Colours(new Grammar(GRAMMAR));
+  const lines = text.split("\n");
+  colours.set(lines);
+  const names = measuresOf(lines, (number) => colours.tokens(number));
+  assert.deepEqual(names, ["kg", "m", "s", "N", "one"]);
+  const annotation = new Annotation(answer(["annot"], text).text);
+  const at = (line, offset) => partAt(annotation, lines[line - 1], line, offset, colours.tokens(line - 1))?.text;
+  assert.equal(at(4, 17), undefined);
+  annotation.units = unitsOf(answer(["types"], textWithUnits(text, names)).text, names);
+  assert.equal(at(4, 17), "N = kg m/s^2");
+  assert.equal(at(4, 21), "kg : base measure");
+  assert.equal(at(5, 17), "one = 1");
+  assert.equal(at(6, 17), "N = kg m/s^2");
+  assert.equal(at(6, 19), "m : base measure");
+  assert.equal(at(6, lines[5].length - 1), undefined);
+});
+
+test("a text without measures has none, and one with too many neither", () => {
+  assert.deepEqual(measuresOf(["let type_ = 1"], () => []), []);
+  const many = Array.from({ length: 201 }, (_, at) => `type m${at}`);
+  assert.deepEqual(measuresOf(many, (number) => [[5, many[number].length, "entity.name.type.measure.um"]]), []);
 });
