@@ -111,7 +111,7 @@ def um() -> Callable[..., Run]:
 
 @pytest.fixture
 def start() -> Iterator[Callable[..., subprocess.Popen[bytes]]]:
-    """Starts `um` on words, or a whole command. What still runs after the test is ended, so a failure leaves nothing."""
+    """Starts `um` on words, or a whole command. What still runs after the test is ended."""
     started: list[subprocess.Popen[bytes]] = []
 
     def begin(words: Sequence[str | Path], **settings: Any) -> subprocess.Popen[bytes]:

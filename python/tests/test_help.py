@@ -1,12 +1,16 @@
 """Help pages, their examples, the version, man pages and completion."""
 import os
+import pty
+import select
 import shutil
+import signal
 import subprocess
 import sys
 
 import pytest
 
 from conftest import HOME, PROGRAM, UM, need
+from waiting import WAIT
 
 from umc import manual
 from umc.commands import COMMANDS
@@ -81,6 +85,9 @@ def test_the_version_stands_in_one_file(um):
 
 @pytest.mark.parametrize("words, why", [
     (["frobnicate"], "um: there is no command 'frobnicate'; um --help lists the commands\n"),
+    (["explain", "a.um"], "um: there is no command 'explain'; each command says why it refuses a text, as um types "
+     "FILE\n"),
+    (["big", "9"], "um: there is no command 'big'; it is a command of umc, and reads no file\n"),
     (["typos"], "um: there is no command 'typos'; similar: types\n"),
     (["help", "tabel"], "um: there is no command 'tabel'; similar: table\n"),
     (["types"], "um: the following arguments are required: FILE\nusage: um types [OPTION..] FILE..\n"
@@ -201,3 +208,29 @@ def test_commands_are_completed_in_fish(path):
 def test_the_script_for_zsh_can_be_read(path):
     text = 'autoload -U compinit; compinit -u -D; eval "$(um completion zsh)"; echo read'
     assert completed(path, "zsh", text) == ["read"]
+
+
+@pytest.mark.skipif(not shutil.which("zsh"), reason="zsh isn't there")
+@pytest.mark.parametrize("typed, wanted", [("um tabl", "usage: um table "), ("um tidy --ch", "usage: um tidy ")])
+def test_words_are_completed_in_zsh(path, typed, wanted):
+    """In a zsh on a terminal, as one types: a word up to the tab, and then that one wants help."""
+    session, terminal = pty.fork()
+    if session == 0:
+        os.environ.update(PATH=path, TERM="dumb")
+        os.chdir(HOME)
+        os.execvp("zsh", ["zsh", "-f", "-i"])
+    said = bytearray()
+
+    def wait(what: bytes) -> None:
+        while what not in said:
+            assert select.select([terminal], [], [], WAIT)[0], said
+            said.extend(os.read(terminal, 4096))
+    try:
+        os.write(terminal, b'autoload -U compinit; compinit -u -D; eval "$(um completion zsh)"; echo be"gun"\n')
+        wait(b"begun")
+        os.write(terminal, typed.encode() + b"\t--help\n")
+        wait(wanted.encode())
+    finally:
+        os.kill(session, signal.SIGKILL)
+        os.close(terminal)
+        os.waitpid(session, 0)

@@ -34,6 +34,9 @@ exit status:
   73        a file can't be written                124  a limit of the run was reached
 """
 LATER = " (needs a later umc)"
+# The commands of umc that um has no command of its own for.
+ELSEWHERE = {"explain": "each command says why it refuses a text, as um types FILE",
+             "big": "it is a command of umc, and reads no file"}
 # Values are at most 400 high, and their trees are read and written by recursion.
 DEPTH = 10000
 
@@ -104,8 +107,8 @@ def dispatch(words: list[str]) -> int:
     command = COMMANDS.get(words[0])
     if command is None:
         found = similar(words[0], list(COMMANDS))
-        Terminal().say(f"um: there is no command '{words[0]}'; "
-                       + (f"similar: {' '.join(found)}" if found else "um --help lists the commands"))
+        Terminal().say(f"um: there is no command '{words[0]}'; " + ELSEWHERE.get(
+            words[0], f"similar: {' '.join(found)}" if found else "um --help lists the commands"))
         return Exit.USAGE
     try:
         args = options.parse(command.parser(), words[1:])

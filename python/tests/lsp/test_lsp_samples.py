@@ -4,6 +4,8 @@ from lsp.client import Client, answer, position
 from lsp.samples import EVERY, EXAMPLES, MARKED, REFUSED, Example, Refused
 
 RIGHT = sorted(path.name for path in EXAMPLES.glob("*.um"))
+# They stand after files of the library, which their first line names.
+PROBLEMS = sorted(f"problems/{path.name}" for path in (EXAMPLES / "problems").glob("*.um"))
 
 
 def test_no_sample_is_left_out() -> None:
@@ -11,7 +13,7 @@ def test_no_sample_is_left_out() -> None:
     assert {refused.file for refused in REFUSED} == {path.name for path in (EXAMPLES / "refusals").glob("*.um")}
 
 
-@pytest.mark.parametrize("file", RIGHT)
+@pytest.mark.parametrize("file", [*RIGHT, *PROBLEMS])
 def test_an_example_has_no_diagnostics(client: Client, file: str) -> None:
     assert client.open((EXAMPLES / file).read_text()).diagnostics == []
 
