@@ -1,4 +1,5 @@
 """Programs in Python: `import umc`, on the program and on the shared library."""
+import dataclasses
 import pickle
 import threading
 from decimal import Decimal
@@ -230,6 +231,30 @@ def test_each_makes_a_call_for_each_row(vehicle):
         vehicle.metres.each([1, 0.5], unit="ft")
     with pytest.raises(umc.ValueRefused, match="2, 1 rows"):
         vehicle.kinetic.each([1, 2], [1], unit=["kg", "m/s"])
+
+
+def test_rows_may_hold_tabs_and_lines(vehicle):
+    texts = ["[1<m>;\n2<m>]", "[1<m>;\t3<m>]", "[1<m>]\r\n", "[1<m>; // a comment\n4<m>]"]
+    assert [value.text for value in vehicle.mean.each(texts)] == ["3r2<m>", "2<m>", "1<m>", "5r2<m>"]
+    found = vehicle.mean.each([*texts, "[1<m>;\n2<q>]"], keep_going=True)[-1]
+    assert (found.row, found.argument) == (5, (1, 10))
+    assert [value.text for value in vehicle.metres.each((n for n in (0, -10)), unit="ft")] == ["0<m>", "-381r125<m>"]
+
+
+def test_a_question_that_is_refused_as_a_whole_has_no_row(engine):
+    program = umc.Program.read(VEHICLE, engine=engine, budget=20_000_000)
+    with pytest.raises(umc.Refused) as caught:
+        program.metres.each([(1, "ft"), (2, "ft")], keep_going=True)
+    assert (caught.value.kind, caught.value.row) == ("usage", None)
+
+
+def test_a_value_is_what_the_constructor_makes(vehicle):
+    found, made = vehicle.metres(10, unit="ft"), umc.Quantity(Fraction(381, 125), "m")
+    assert found == made and hash(found) == hash(made) and repr(found) == repr(made)
+    assert (found.rounded, found.digits) == (False, None)
+    assert dataclasses.replace(found, unit="ft") == umc.Quantity(Fraction(381, 125), "ft")
+    with pytest.raises(dataclasses.FrozenInstanceError):
+        found.unit = "ft"
 
 
 def test_threads_may_share_a_program(vehicle):

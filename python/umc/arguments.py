@@ -69,11 +69,25 @@ def line_of_calls(words: Sequence[str]) -> str:
     return "\t".join(BREAK.sub(" ", _without_comments(word)) for word in words)
 
 
+def lines_of_calls(name: str, columns: Sequence[Sequence[str]]) -> str:
+    """The lines of `calls` that call a function with each row of columns of arguments, each line with its end."""
+    lines = [f"{name}\t{row}\n" for row in map("\t".join, zip(*columns))]
+    text = "".join(lines)
+    if text.count("\t") == len(lines) * len(columns) and text.count("\n") == len(lines) and "\r" not in text:
+        return text  # no argument holds a tab or the end of a line
+    return "".join([line_of_calls((name, *row)) + "\n" for row in zip(*columns)])
+
+
 def _without_comments(word: str) -> str:
     return COMMENT.sub(lambda found: " " * len(found[0]), word) if "\n" in word else word
 
 
 def source_of_calls(text: bytes, lines: list[str]) -> bytes:
     """What `calls` reads: a program's text, and lines of calls."""
+    return before_calls(text) + os.fsencode("\n".join([*lines, ""]))
+
+
+def before_calls(text: bytes) -> bytes:
+    """What `calls` reads before the lines of calls: a program's text, and the line that ends it."""
     ended = b"" if not text or text.endswith(b"\n") else b"\n"
-    return CUT.sub(SEPARATOR + b" ", text) + ended + SEPARATOR + b"\n" + os.fsencode("\n".join([*lines, ""]))
+    return CUT.sub(SEPARATOR + b" ", text) + ended + SEPARATOR + b"\n"

@@ -5,12 +5,12 @@ keeps checked programs fits in beside those that read the text at each call.
 """
 import os
 from collections.abc import Sequence
+from functools import cached_property
 from pathlib import Path
 from typing import Protocol
 
 from umc import program as processes
-from umc import reports
-from umc.arguments import line_of_calls, source_of_calls
+from umc.arguments import before_calls, lines_of_calls
 from umc.call_commands import ask as ask_any_length
 from umc.limits import NONE, Limits
 from umc.program import Answer
@@ -19,6 +19,11 @@ from umc.texts import Source, Text
 CHUNK = 10_000
 PROBES = processes.PROBES
 UNKNOWN_WORDS = processes.UNKNOWN_WORDS
+
+
+def line_of(answer: Answer) -> str:
+    """What was answered, without the end of its last line."""
+    return answer.output.decode("utf-8", "replace").removesuffix("\n")
 
 
 class Handle(Protocol):
@@ -30,8 +35,11 @@ class Handle(Protocol):
     def call(self, budget: str, words: Sequence[str]) -> Answer:
         """The answer to one call: the words are the function's name and its arguments."""
 
-    def calls(self, budget: str, lines: Sequence[Sequence[str]]) -> list[Answer]:
-        """The answers to many calls of a text that is accepted."""
+    def calls(self, budget: str, name: str, columns: Sequence[list[str]]) -> list[str] | Answer:
+        """The lines that calls of a function print, one for each row of columns: a value, or a report line.
+
+        An answer refuses all of them.
+        """
 
     def close(self) -> None:
         """Lets go of what is kept."""
@@ -105,24 +113,30 @@ class TextHandle:
         """The answer to one call."""
         return self.ask(["run", budget, *words])
 
-    def calls(self, budget: str, lines: Sequence[Sequence[str]]) -> list[Answer]:
-        """The answers to many calls: the text is read once for each ten thousand, if the engine has `calls`."""
-        if not self._engine.has("calls"):
-            return [self.call(budget, words) for words in lines]
-        found: list[Answer] = []
-        for first in range(0, len(lines), CHUNK):
-            found += self._chunk(budget, [line_of_calls(words) for words in lines[first:first + CHUNK]])
+    def calls(self, budget: str, name: str, columns: Sequence[list[str]]) -> list[str] | Answer:
+        """The lines of many calls: the text is read once for each ten thousand, if the engine has `calls`."""
+        found: list[str] = []
+        answers = self._chunk if self._engine.has("calls") else self._one_by_one
+        for first in range(0, len(columns[0]) if columns else 0, CHUNK):
+            lines = answers(budget, name, [column[first:first + CHUNK] for column in columns])
+            if isinstance(lines, Answer):
+                return lines
+            found += lines
         return found
 
-    def _chunk(self, budget: str, lines: list[str]) -> list[Answer]:
-        answer = self._engine.answer(["calls", budget], source_of_calls(self._text, lines))
-        if answer.status != 0:
-            return [answer] * len(lines)
-        every = []
-        for line in answer.output.removesuffix(b"\n").split(b"\n"):
-            report = reports.parse(line.decode("utf-8", "replace")) if line.startswith(b"error ") else None
-            every.append(Answer(report.status if report else 0, line + b"\n"))
-        return every
+    def _chunk(self, budget: str, name: str, columns: Sequence[list[str]]) -> list[str] | Answer:
+        source = self._before_calls + os.fsencode(lines_of_calls(name, columns))
+        answer = self._engine.answer(["calls", budget], source)
+        return line_of(answer).split("\n") if answer.status == 0 else answer
+
+    def _one_by_one(self, budget: str, name: str, columns: Sequence[list[str]]) -> list[str] | Answer:
+        answers = [self.call(budget, [name, *row]) for row in zip(*columns)]
+        silent = [answer for answer in answers if not answer.output]
+        return silent[0] if silent else [line_of(answer) for answer in answers]
+
+    @cached_property
+    def _before_calls(self) -> bytes:
+        return before_calls(self._text)
 
     def close(self) -> None:
         """Nothing is kept."""

@@ -2,8 +2,8 @@
 from typing import Any
 
 from umc.embed import quantity, refused
-from umc.embed.engines import Engine
-from umc.embed.program import engine_of, line_of
+from umc.embed.engines import Engine, line_of
+from umc.embed.program import engine_of
 from umc.embed.quantity import Quantity
 from umc.embed.texts_of import Step, Writer, exact_step
 from umc.errors import UmError
@@ -30,7 +30,7 @@ class Image:
 
     def call(self, function: str, *arguments: Any, step: Step | None = None) -> Any:
         """The value of a call of a function."""
-        return quantity.value_of(self.printed(function, *arguments, step=step), quantity.reader(_no_unit))
+        return quantity.value_of(self.printed(function, *arguments, step=step), _no_unit)
 
 
 def _no_unit(given: Quantity, unit: str) -> Quantity:

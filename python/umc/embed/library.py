@@ -70,12 +70,11 @@ class Library:
 
     def answer(self, words: Sequence[str], text: bytes) -> Answer:
         """The library's answer to these words about a text. Other threads run meanwhile."""
-        parts = [os.fsencode(word) for word in words]
-        if any(b"\0" in part for part in parts):
+        if any("\0" in word for word in words):
             raise WordsTooLong("no word may hold the character 0")
-        handed = (ctypes.c_char_p * len(parts))(*parts)
+        handed = (ctypes.c_char_p * len(words))(*[word.encode("utf-8", "surrogateescape") for word in words])
         begin, size = ctypes.c_void_p(), ctypes.c_size_t()
-        status = self._answer(handed, len(parts), text, len(text), ctypes.byref(begin), ctypes.byref(size))
+        status = self._answer(handed, len(words), text, len(text), ctypes.byref(begin), ctypes.byref(size))
         try:
             return Answer(status, ctypes.string_at(begin, size.value) if begin else b"")
         finally:

@@ -3,15 +3,19 @@ import os
 import re
 from collections.abc import Iterable, Sequence
 from dataclasses import dataclass
+from decimal import Decimal
+from fractions import Fraction
+from itertools import repeat
 from typing import Any
 
+from umc import reports
 from umc.embed import quantity, refused
-from umc.embed.engines import Engine, Process
+from umc.embed.engines import Engine, Process, line_of
 from umc.embed.library import Library, find
 from umc.embed.quantity import Quantity
 from umc.embed.refused import Refused
 from umc.embed.schemes import Scheme, schemes
-from umc.embed.texts_of import Step, ValueRefused, Writer, column_unit, exact_step
+from umc.embed.texts_of import Step, ValueRefused, Writer, column_unit, exact_step, writer
 from umc.errors import InputError, UmError
 from umc.limits import NONE, Limits
 from umc.options import BUDGET
@@ -59,6 +63,7 @@ class Program:
         if answer.status != 0:
             raise refused.of_text(self._handle, self._text, answer, self.engine.has("explain"))
         self._schemes = schemes(answer.output.decode())
+        self._functions = {name: Function(self, scheme) for name, scheme in self._schemes.items()}
         self._ratio: "Program | None" = None
 
     @classmethod
@@ -85,14 +90,13 @@ class Program:
         return dict(self._schemes)
 
     def __getitem__(self, name: str) -> "Function":
-        if name not in self._schemes:
-            raise KeyError(name)
-        return Function(self, self._schemes[name])
+        return self._functions[name]
 
     def __getattr__(self, name: str) -> "Function":
-        if name in self.__dict__.get("_schemes", {}):
-            return self[name]
-        raise AttributeError(f"the program has no function {name!r}")
+        found: Function | None = self.__dict__.get("_functions", {}).get(name)
+        if found is None:
+            raise AttributeError(f"the program has no function {name!r}")
+        return found
 
     def __dir__(self) -> list[str]:
         return sorted([*object.__dir__(self), *self._schemes])
@@ -109,12 +113,14 @@ class Program:
 
     # ---- what functions and quantities ask
 
-    def answers(self, name: str, rows: Sequence[Sequence[str]]) -> list[Any]:
-        """The values, or the refusals, of calls of a function, whose arguments are texts."""
-        found = self._handle.calls(str(self.budget), [[name, *row] for row in rows])
-        read = quantity.reader(self.convert)
-        return [quantity.value_of(line_of(answer), read) if answer.status == 0 else self._refused(name, row, answer)
-                for row, answer in zip(rows, found, strict=True)]
+    def answers(self, name: str, columns: Sequence[list[str]]) -> list[Any]:
+        """The values, or the refusals, of calls of a function with each row of columns of arguments, as texts."""
+        lines = self._handle.calls(str(self.budget), name, columns)
+        if isinstance(lines, Answer):
+            raise refused.of_call(lines, [], None)
+        convert = self.convert
+        return [self._refused(name, number, columns, line) if line.startswith(REFUSAL)
+                else quantity.value_of(line, convert) for number, line in enumerate(lines, 1)]
 
     def answer(self, name: str, arguments: Sequence[str]) -> str:
         """The printed value of a call of a function, whose arguments are texts."""
@@ -127,8 +133,12 @@ class Program:
             found = refused.of_trap(self._handle, self._text, words, found)
         raise found
 
-    def _refused(self, name: str, arguments: Sequence[str], answer: Answer) -> Refused:
-        return refused.of_call(answer, list(arguments), self._schemes[name].text)
+    def _refused(self, name: str, row: int, columns: Sequence[list[str]], line: str) -> Refused:
+        report = reports.parse(line)
+        answer = Answer(report.status if report else 0, line.encode())
+        found = refused.of_call(answer, [column[row - 1] for column in columns], self._schemes[name].text)
+        found.row = row
+        return found
 
     def convert(self, given: Quantity, unit: str) -> Quantity:
         """A quantity in another unit, as the program computes it."""
@@ -152,11 +162,7 @@ class Program:
         return self._ratio
 
 
-def line_of(answer: Answer) -> str:
-    """The line that a call printed."""
-    return answer.output.decode().removesuffix("\n")
-
-
+REFUSAL = "error "    # a line that begins so is no value
 RATIO = "umc_ratio__"
 RATIO_TEXT = f"\nlet {RATIO} (x: num<_>) (y: num<_>) = x / y\n".encode()
 
@@ -188,14 +194,16 @@ class Function:
 
         Raises `umc.Refused` if the program refuses the call, and `umc.ValueRefused` for a value that is no argument.
         """
-        read = quantity.reader(self.program.convert)
-        return quantity.value_of(self.printed(*arguments, unit=unit, step=step), read)
+        return quantity.value_of(self.printed(*arguments, unit=unit, step=step), self.program.convert)
 
     def printed(self, *arguments: Any, unit: Units = None, step: Step | None = None) -> str:
         """The value of a call as the program prints it, as 381r125<m>."""
-        writers = self._writers(arguments, unit, step)
-        pairs = enumerate(zip(writers, arguments), 1)
-        texts = [_told(writer, argument, number) for number, (writer, argument) in pairs]
+        texts: list[str] = []
+        try:
+            for own, argument in zip(self._writers(arguments, unit, step), arguments):
+                texts.append(own.text(argument))
+        except ValueRefused as error:
+            raise ValueRefused(f"argument {len(texts) + 1}: {error.message}") from error
         return self.program.answer(self.name, texts)
 
     def each(self, *columns: Iterable[Any], unit: Units = None, step: Step | None = None,
@@ -206,38 +214,26 @@ class Function:
         place of the value.
         """
         writers = self._writers(columns, unit, step)
-        texts = [_column(writer, column, number) for number, (writer, column) in enumerate(zip(writers, columns), 1)]
+        texts = [own.texts(column, f"argument {number}, row")
+                 for number, (own, column) in enumerate(zip(writers, columns), 1)]
         if len({len(column) for column in texts}) > 1:
             raise ValueRefused(f"the columns have {', '.join(str(len(column)) for column in texts)} rows")
-        found = self.program.answers(self.name, list(zip(*texts)))
-        for number, value in enumerate(found, 1):
-            if isinstance(value, Refused):
-                value.row = number
-                if not keep_going:
-                    raise value
+        found = self.program.answers(self.name, texts)
+        first = next((value for value in found if isinstance(value, Refused)), None)
+        if first is not None and not keep_going:
+            raise first
         return found
 
     def _writers(self, arguments: Sequence[Any], unit: Units, step: Step | None) -> list[Writer]:
         exact = None if step is None else exact_step(step)
-        units = [unit] * len(arguments) if unit is None or isinstance(unit, str) else list(unit)
-        if len(units) != len(arguments):
-            raise ValueRefused(f"unit has {len(units)} units for {len(arguments)} arguments")
-        return [Writer(column_unit(argument) if own is None else own, exact)
-                for argument, own in zip(arguments, units)]
+        if unit is None or isinstance(unit, str):
+            units: Iterable[str | None] = repeat(unit)
+        elif len(unit) == len(arguments):
+            units = unit
+        else:
+            raise ValueRefused(f"unit has {len(unit)} units for {len(arguments)} arguments")
+        return [writer(own if own is not None or type(argument) in PLAIN else column_unit(argument), exact)
+                for own, argument in zip(units, arguments)]
 
 
-def _told(writer: Writer, argument: Any, number: int) -> str:
-    try:
-        return writer.text(argument)
-    except ValueRefused as error:
-        raise ValueRefused(f"argument {number}: {error.message}") from error
-
-
-def _column(writer: Writer, column: Iterable[Any], number: int) -> list[str]:
-    texts = []
-    for row, value in enumerate(column, 1):
-        try:
-            texts.append(writer.text(value))
-        except ValueRefused as error:
-            raise ValueRefused(f"argument {number}, row {row}: {error.message}") from error
-    return texts
+PLAIN = frozenset([int, str, Fraction, Decimal, Quantity, tuple, list])   # these aren't columns of a data frame

