@@ -30,8 +30,8 @@ class Item:
         self.before, self.part, self.height, self.at = before, part, height, at
 
     def next(self) -> str | None:
-        """The symbol behind the dot."""
-        return self.rule.symbols[self.dot] if self.dot < len(self.rule.symbols) else None
+        """The symbol behind the dot; None behind the last."""
+        return self.rule.following[self.dot]
 
     def parts(self) -> list:
         """What was read as the symbols, without words and signs: tokens, and the items that are complete there."""
@@ -102,7 +102,7 @@ class Chart:
     def fill(self, items: list[Item], token: Token | None) -> None:
         """Adds the set that grows from these items: what they ask for, and what is complete."""
         here = len(self.waiting)
-        waiting: dict[str, list[Item]] = defaultdict(list)
+        waiting: dict[str, list[Item]] = {}
         seen = {(item.rule, item.dot, item.origin) for item in items}
         empty: dict[str, Item] = {}
         self.waiting.append(waiting)
@@ -117,16 +117,16 @@ class Chart:
                 items.append(item)
 
         for item in items:
-            symbol = item.next()
+            symbol = item.rule.following[item.dot]
             if symbol is None:
                 self.complete(item, here, empty, add)
-                continue
-            waiting[symbol].append(item)
-            if len(waiting[symbol]) == 1:
-                for rule in self.grammar.rules.get(symbol, ()):
-                    add(Item(rule, 0, here, None, None, 0, -1))
-            if symbol in empty:
-                add(self.behind(item, empty[symbol]))
+            elif symbol not in waiting:
+                waiting[symbol] = [item]
+                items += [Item(rule, 0, here, None, None, 0, -1) for rule in self.grammar.rules.get(symbol, ())]
+            else:
+                waiting[symbol].append(item)
+                if symbol in empty:
+                    add(self.behind(item, empty[symbol]))
 
     def complete(self, item: Item, here: int, empty: dict[str, Item], add) -> None:
         """Puts a rule that is read wholly into those that wait for it."""

@@ -155,13 +155,16 @@ class Rule:
     action: str
     marked: int
 
+    def __post_init__(self) -> None:
+        self.following = [*self.symbols, None]
+        self.fixed = int(self.action.partition("!")[2]) if "!" in self.action else None
+        self.higher = 0 if self.action in ("pass", "list", "more") or self.action.endswith("~") else 1
+
     def height(self, parts: int) -> int:
         """The height of what the rule makes, from that of its highest part."""
-        if "!" in self.action:
-            return TOO_HIGH if parts > HIGHEST else int(self.action.partition("!")[2])
-        if self.action in ("pass", "list", "more") or self.action.endswith("~"):
-            return parts
-        return min(parts + 1, TOO_HIGH)
+        if self.fixed is not None:
+            return TOO_HIGH if parts > HIGHEST else self.fixed
+        return min(parts + self.higher, TOO_HIGH)
 
     def made(self, parts: list, at: int):
         """What the rule makes of its parts."""
