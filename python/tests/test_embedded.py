@@ -9,6 +9,7 @@ import pytest
 
 import umc
 from conftest import HOME, PROGRAM
+from umc.embed import engines as engines_module
 from umc.embed import library
 
 VEHICLE = HOME / "examples/vehicle.um"
@@ -239,6 +240,16 @@ def test_rows_may_hold_tabs_and_lines(vehicle):
     found = vehicle.mean.each([*texts, "[1<m>;\n2<q>]"], keep_going=True)[-1]
     assert (found.row, found.argument) == (5, (1, 10))
     assert [value.text for value in vehicle.metres.each((n for n in (0, -10)), unit="ft")] == ["0<m>", "-381r125<m>"]
+
+
+def test_rows_are_asked_by_threads_in_their_order(vehicle, monkeypatch):
+    monkeypatch.setattr(engines_module, "CHUNK", 3)
+    monkeypatch.setattr(vehicle.engine, "threads", 4)
+    found = vehicle.metres.each(range(20), unit="ft")
+    assert [value.magnitude for value in found] == [n * Fraction(381, 1250) for n in range(20)]
+    with pytest.raises(umc.Refused) as caught:
+        vehicle.metres.each([*["1<ft>"] * 7, "1<q>", "1<ft>"])
+    assert caught.value.row == 8
 
 
 def test_a_question_that_is_refused_as_a_whole_has_no_row(engine):

@@ -4,10 +4,12 @@ An engine opens the text of a program and gives a handle; a handle answers about
 keeps checked programs fits in beside those that read the text at each call.
 """
 import os
-from collections.abc import Sequence
-from functools import cached_property
+from collections.abc import Callable, Generator, Sequence
+from concurrent.futures import ThreadPoolExecutor
+from contextlib import closing
+from functools import cached_property, partial
 from pathlib import Path
-from typing import Protocol
+from typing import Protocol, TypeVar
 
 from umc import program as processes
 from umc.arguments import before_calls, lines_of_calls
@@ -19,11 +21,24 @@ from umc.texts import Source, Text
 CHUNK = 10_000
 PROBES = processes.PROBES
 UNKNOWN_WORDS = processes.UNKNOWN_WORDS
+Piece, Made = TypeVar("Piece"), TypeVar("Made")
 
 
 def line_of(answer: Answer) -> str:
     """What was answered, without the end of its last line."""
     return answer.output.decode("utf-8", "replace").removesuffix("\n")
+
+
+def in_order(work: Callable[[Piece], Made], pieces: Sequence[Piece], threads: int) -> Generator[Made, None, None]:
+    """What the work makes of each piece, in order, by at most so many threads."""
+    if threads < 2 or len(pieces) < 2:
+        yield from map(work, pieces)
+        return
+    pool = ThreadPoolExecutor(min(threads, len(pieces)))
+    try:
+        yield from pool.map(work, pieces)
+    finally:
+        pool.shutdown(cancel_futures=True)
 
 
 class Handle(Protocol):
@@ -62,6 +77,8 @@ class Engine(Protocol):
 class Process:
     """The program `umc`, in a process of its own for each question, within limits."""
 
+    threads = 1
+
     def __init__(self, path: str | os.PathLike[str] | None = None, limits: Limits = NONE):
         self.program = processes.find() if path is None else processes.Program(Path(path).absolute())
         self.limits = limits
@@ -92,6 +109,10 @@ class Process:
 class Answering(Protocol):
     """An engine that reads the text at each question."""
 
+    @property
+    def threads(self) -> int:
+        """How many threads may put the questions of one `each` at once."""
+
     def has(self, command: str) -> bool:
         """Whether it has this command."""
 
@@ -115,13 +136,15 @@ class TextHandle:
 
     def calls(self, budget: str, name: str, columns: Sequence[list[str]]) -> list[str] | Answer:
         """The lines of many calls: the text is read once for each ten thousand, if the engine has `calls`."""
-        found: list[str] = []
+        rows = len(columns[0]) if columns else 0
+        pieces = [[column[first:first + CHUNK] for column in columns] for first in range(0, rows, CHUNK)]
         answers = self._chunk if self._engine.has("calls") else self._one_by_one
-        for first in range(0, len(columns[0]) if columns else 0, CHUNK):
-            lines = answers(budget, name, [column[first:first + CHUNK] for column in columns])
-            if isinstance(lines, Answer):
-                return lines
-            found += lines
+        found: list[str] = []
+        with closing(in_order(partial(answers, budget, name), pieces, self._engine.threads)) as every:
+            for lines in every:
+                if isinstance(lines, Answer):
+                    return lines
+                found += lines
         return found
 
     def _chunk(self, budget: str, name: str, columns: Sequence[list[str]]) -> list[str] | Answer:

@@ -2,6 +2,7 @@
 import ctypes
 import ctypes.util
 import os
+import resource
 import sys
 from collections.abc import Sequence
 from functools import cache
@@ -12,6 +13,7 @@ from umc.errors import Unavailable, WordsTooLong
 from umc.program import HOME, Answer, is_checkout
 
 NAME = "libumc.so.1"
+STACK = 8 << 20
 VARIABLE = "UMC_LIBRARY"
 NO_LIBRARY = ("", "none")
 
@@ -43,10 +45,20 @@ def loaded(name: str) -> Path:
     return Path(sys.prefix) / "lib" / name
 
 
-class Library:
-    """The shared library. A question costs no process, and nothing limits its time and memory but the budget."""
+def all_threads() -> int:
+    """How many threads may ask at once: one for each processor, if a thread has the stack that a run may need."""
+    stack, _ = resource.getrlimit(resource.RLIMIT_STACK)    # of a thread too; without a limit a thread has 2 MiB
+    return len(os.sched_getaffinity(0)) if stack >= STACK else 1
 
-    def __init__(self, path: str | os.PathLike[str] | None = None):
+
+class Library:
+    """The shared library. A question costs no process, and nothing limits its time and memory but the budget.
+
+    threads: how many threads may put the questions of one `each` at once, otherwise one for each processor
+    """
+
+    def __init__(self, path: str | os.PathLike[str] | None = None, threads: int | None = None):
+        self.threads = all_threads() if threads is None else threads
         found = find() if path is None else os.fspath(path)
         if found is None:
             raise Unavailable(f"there is no {NAME}; {VARIABLE}=FILE names one")
