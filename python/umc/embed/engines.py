@@ -21,7 +21,8 @@ from umc.texts import Source, Text
 CHUNK = 10_000
 PROBES = processes.PROBES
 UNKNOWN_WORDS = processes.UNKNOWN_WORDS
-Piece, Made = TypeVar("Piece"), TypeVar("Made")
+Piece = TypeVar("Piece")
+Made = TypeVar("Made")
 
 
 def line_of(answer: Answer) -> str:
