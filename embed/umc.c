@@ -96,6 +96,80 @@ void umc_free(char *answer) {
     free(answer);
 }
 
+/* ---- programs that are open */
+
+struct umc_program {
+    size_t size;
+    char text[];
+};
+
+static const char *const TYPES[] = {"types"};
+
+int umc_open(const void *text, size_t text_size, umc_program **program, char **answer, size_t *answer_size) {
+    *program = NULL;
+    int status = umc_answer(TYPES, 1, text, text_size, answer, answer_size);
+    if (status != UMC_DONE) {
+        return status;
+    }
+    size_t size = text ? text_size : 0; /* no text that is accepted is longer than a mebibyte */
+    umc_program *kept = malloc(sizeof *kept + size);
+    if (!kept) {
+        umc_free(*answer);
+        *answer = NULL;
+        *answer_size = 0;
+        return UMC_NO_MEMORY;
+    }
+    kept->size = size;
+    if (size) {
+        memcpy(kept->text, text, size);
+    }
+    *program = kept;
+    return status;
+}
+
+int umc_types(const umc_program *program, char **answer, size_t *answer_size) {
+    return umc_answer(TYPES, 1, program->text, program->size, answer, answer_size);
+}
+
+/* The digits of a number, at the end of the room. */
+static const char *digits_of(unsigned long number, char *room, size_t room_size) {
+    char *at = room + room_size - 1;
+    *at = '\0';
+    do {
+        *--at = (char)('0' + number % 10);
+        number /= 10;
+    } while (number);
+    return at;
+}
+
+int umc_call(const umc_program *program, unsigned long budget, const char *name, const char *const *arguments,
+             size_t arguments_count, char **answer, size_t *answer_size) {
+    enum { OWN = 3 };
+    char digits[3 * sizeof budget + 1];
+    *answer = NULL;
+    *answer_size = 0;
+    const char **words = NULL;
+    if (arguments_count < MOST / sizeof *words - OWN) {
+        words = malloc((OWN + arguments_count) * sizeof *words);
+    }
+    if (!words) {
+        return UMC_NO_MEMORY;
+    }
+    words[0] = "run";
+    words[1] = digits_of(budget, digits, sizeof digits);
+    words[2] = name;
+    for (size_t at = 0; at < arguments_count; at++) {
+        words[OWN + at] = arguments[at];
+    }
+    int status = umc_answer(words, OWN + arguments_count, program->text, program->size, answer, answer_size);
+    free(words);
+    return status;
+}
+
+void umc_close(umc_program *program) {
+    free(program);
+}
+
 const char *umc_version(void) {
     return UMC_VERSION;
 }

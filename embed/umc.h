@@ -47,6 +47,34 @@ int umc_answer(const char *const *words, size_t words_count, const void *text, s
 /* Gives the memory of an answer back. NULL is allowed. */
 void umc_free(char *answer);
 
+/* A program that was accepted. Nothing in it changes, so threads may share it. */
+typedef struct umc_program umc_program;
+
+/*
+ * Opens a program, and keeps a copy of its text.
+ *
+ * Gives the status of `types` on the text, and its answer. If the status is 0, *program is set to the program, which is
+ * the caller's, who hands it to umc_close; otherwise it is set to NULL. The rest is as with umc_answer.
+ */
+int umc_open(const void *text, size_t text_size, umc_program **program, char **answer, size_t *answer_size);
+
+/* The types of the program's functions: the status and the answer of `types` on its text. */
+int umc_types(const umc_program *program, char **answer, size_t *answer_size);
+
+/*
+ * Calls a function of the program: the status and the answer of `run BUDGET NAME ARGUMENT..` on its text.
+ *
+ * budget: how many calls the run may make, at most 10,000,000
+ * name, arguments, arguments_count: the function's name, and its arguments as they are written in the language
+ *
+ * In this version the text is read and checked at each call. For many calls of one program ask umc_answer for `calls`.
+ */
+int umc_call(const umc_program *program, unsigned long budget, const char *name, const char *const *arguments,
+             size_t arguments_count, char **answer, size_t *answer_size);
+
+/* Lets go of a program. NULL is allowed. */
+void umc_close(umc_program *program);
+
 /* The version of the library, as "1.0.0". */
 const char *umc_version(void);
 

@@ -162,10 +162,95 @@ static void check_failures(const struct question *question) {
     printf("%s: %ld allocations, %ld of %ld refused\n", question->words[0], calls, refused, 2 * calls);
 }
 
+/* ---- programs that are open */
+
+/* Whether a call of an open program is answered so. */
+static int calls_well(const umc_program *program, unsigned long budget, const char *name, const char *argument,
+                      int status, const char *expected) {
+    char *answer;
+    size_t size;
+    int found = umc_call(program, budget, name, &argument, 1, &answer, &size);
+    int well = found == status && answer && size == strlen(expected) && strcmp(answer, expected) == 0;
+    umc_free(answer);
+    return well;
+}
+
+static int is_open_well(const umc_program *program) {
+    char *answer;
+    size_t size;
+    int well = umc_types(program, &answer, &size) == 0 && answer && strcmp(answer, QUESTIONS[0].answer) == 0;
+    umc_free(answer);
+    return well && calls_well(program, 1, "metres", "10<ft>", 0, "381r125<m>\n") &&
+           calls_well(program, 10000000, "total", "[1<m>; 2.5<m>]", 0, "7r2<m>\n") &&
+           calls_well(program, 0, "metres", "10<ft>", 13, "error 13: budget\n") &&
+           calls_well(program, 10000001, "metres", "10<ft>", 1, "error 1: usage\n") &&
+           calls_well(program, (unsigned long)-1, "metres", "10<ft>", 1, "error 1: usage\n") &&
+           calls_well(program, 1, "metres", "10<m>", 11, "error 11: units of the arguments\n") &&
+           calls_well(program, 1, "yards", "1", 11, "error 11: no such function\n");
+}
+
+static void check_programs(void) {
+    umc_program *program;
+    char *answer, text[sizeof VEHICLE];
+    size_t size;
+    strcpy(text, VEHICLE);
+    check(umc_open(text, strlen(text), &program, &answer, &size) == 0 && program, "a program is opened");
+    check(answer && strcmp(answer, QUESTIONS[0].answer) == 0, "the types of what is opened");
+    umc_free(answer);
+    memset(text, 'x', sizeof text); /* the text is copied */
+    check(is_open_well(program), "the answers of an open program");
+    umc_close(program);
+    check(umc_open(NULL, 0, &program, &answer, &size) == 0 && program && answer && !size, "a program without a text");
+    umc_free(answer);
+    check(calls_well(program, 1, "f", "1", 11, "error 11: no such function\n"), "a call of nothing");
+    umc_close(program);
+    check(umc_open(WRONG, strlen(WRONG), &program, &answer, &size) == 9 && !program, "a text that is refused");
+    check(answer && strcmp(answer, "error 9: units of f at 2:23\n") == 0, "its line");
+    umc_free(answer);
+    umc_close(NULL);
+}
+
+/* Opens and calls; the status is that of the first that isn't done. */
+static int open_and_call(char **answer, size_t *size) {
+    umc_program *program;
+    const char *argument = "10<ft>";
+    int status = umc_open(VEHICLE, strlen(VEHICLE), &program, answer, size);
+    if (status == 0) {
+        umc_free(*answer);
+        status = umc_call(program, 1, "metres", &argument, 1, answer, size);
+    }
+    umc_close(program);
+    return status;
+}
+
+/* Each allocation of opening and calling fails, alone and with all after it. */
+static void check_program_failures(void) {
+    char *answer;
+    size_t size;
+    asked = 0;
+    open_and_call(&answer, &size);
+    umc_free(answer);
+    long calls = asked, refused = 0;
+    for (long at = 1; at <= 2 * calls; at++) {
+        asked = 0;
+        fail_at = at <= calls ? at : 0;
+        fail_from = at <= calls ? 0 : at - calls;
+        int status = open_and_call(&answer, &size);
+        fail_at = fail_from = 0;
+        int is_none = status == UMC_NO_MEMORY && !answer && !size;
+        refused += is_none;
+        check(is_none || (status == 0 && answer && strcmp(answer, "381r125<m>\n") == 0),
+              "an open program with a failed allocation");
+        umc_free(answer);
+    }
+    check(calls > 6 && refused > 0, "that allocations fail");
+    printf("open: %ld allocations, %ld of %ld refused\n", calls, refused, 2 * calls);
+}
+
 static void *of_thread(void *given) {
-    (void)given;
     long wrong = 0;
     for (int time = 0; time < TIMES; time++) {
+        wrong += !is_open_well(given);
         for (int at = 0; at < QUESTION_COUNT; at++) {
             wrong += !is_well(QUESTIONS + at);
         }
@@ -173,15 +258,22 @@ static void *of_thread(void *given) {
     return (void *)wrong;
 }
 
+/* Threads share a program. */
 static void check_threads(void) {
     pthread_t threads[THREADS];
+    umc_program *program;
+    char *answer;
+    size_t size;
+    check(umc_open(VEHICLE, strlen(VEHICLE), &program, &answer, &size) == 0, "a program that threads share");
+    umc_free(answer);
     for (int at = 0; at < THREADS; at++) {
-        check(pthread_create(threads + at, NULL, of_thread, NULL) == 0, "a thread");
+        check(pthread_create(threads + at, NULL, of_thread, program) == 0, "a thread");
     }
     for (int at = 0; at < THREADS; at++) {
         void *wrong;
         check(pthread_join(threads[at], &wrong) == 0 && !wrong, "the answers in a thread");
     }
+    umc_close(program);
 }
 
 int main(void) {
@@ -191,6 +283,8 @@ int main(void) {
     check_failures(QUESTIONS);
     check_failures(QUESTIONS + 2);
     check_failures(QUESTIONS + 5);
+    check_programs();
+    check_program_failures();
     check_threads();
     puts(failed ? "failed" : "all well");
     return failed;

@@ -10,7 +10,7 @@ from conftest import DEBIAN, HOME, PROGRAM, SONAME, STATIC, VERSION, done, need
 CHECK = HOME / "embed/tests/check.c"
 WRAP = "-Wl,--wrap=malloc,--wrap=realloc"
 WARNINGS = ["-std=c11", "-Wall", "-Wextra", "-Werror", "-g", "-O1"]
-PUBLIC = ["umc_answer", "umc_free", "umc_version"]
+PUBLIC = ["umc_answer", "umc_call", "umc_close", "umc_free", "umc_open", "umc_types", "umc_version"]
 
 
 @pytest.mark.parametrize("checker", ["none", "address,undefined", "thread"])
@@ -24,7 +24,7 @@ def test_answers_under_the_checkers(libraries, tmp_path, checker):
          "-o", made)
     said = done(made)
     assert said.splitlines()[-1] == "all well"
-    assert len(re.findall(r"^\w+: [0-9]+ allocations", said, re.M)) == 3
+    assert len(re.findall(r"^\w+: [0-9]+ allocations", said, re.M)) == 4
 
 
 def test_the_header_is_c_and_cpp(tmp_path):
