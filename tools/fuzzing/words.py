@@ -111,7 +111,8 @@ class Words:
         words = [self.rng.choice(PLAIN)] if choice < 0.35 else self.call() if choice < 0.8 else (
             ["conform"] + self.signature()) if choice < 0.9 else ["rescale", self.sizes()]
         if self.chance(0.01):
-            words = self.rng.choice([words + ["x"], words[:-1], ["run", "10000001", "f0"], ["run", "x", "f0"], []])
+            big = ["big", self.rng.choice(["1", "2", "5", "9", "0012", "0", "2001", "x"])]
+            words = self.rng.choice([words + ["x"], words[:-1], ["run", "10000001", "f0"], ["run", "x", "f0"], [], big])
         if not new and words and words[0] in ("explain", "annot", "tidy", "trace", "show"):
             return ["types"]
         return [word for word in words if "\0" not in word]
