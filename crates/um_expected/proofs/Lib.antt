@@ -3,3 +3,4 @@ pub mod Standing
 pub mod Told
 pub mod Tries
 pub mod WordLaws
+pub mod Parts

@@ -19,7 +19,7 @@ use Rattle.um_parse.specs.DeclGrammar.{IsProgram}
 use Rattle.um_parse.specs.ProgramHeights.{program_height}
 use Rattle.um_parse.specs.ProgramStops.{StopsAt, HighAt}
 use Rattle.um_parse.specs.Parsed.{LimitAt, Parsed}
-use Rattle.um_expected.specs.Trials.{begins_by, read_by}
+use Rattle.um_expected.specs.Trials.{Whole, begins_by, read_by}
 
 pub clash : false ≡ true → ⊥
 clash e = cc
@@ -141,9 +141,6 @@ begins_right before last at (Err (stop.Limit kind place)) b same low r e =
     subst (λ x. Decides x (Begins (before ++ last ∷ []))) (some_same true b e)
     ((λ t. limited before last low (at + 1) kind place r), (λ x. refl))
 begins_right before last at (Err stop.NoMemory) b same low r e = absurd (no_answer b e)
-
-abbrev pub Whole : List Token → Type 0
-Whole tokens = (ds : List DeclSyntax) × IsProgram tokens ds
 
 pub read_right : (all : List Token) (end : ℕ) (answer : Result RawProgram ParseStop) (b : Bool) → Within all → Parsed all end answer
     → read_by answer ≡ Some b → Decides b (Whole all)

@@ -84,3 +84,11 @@ pub chosen_step : (Is : Word → Type 0) (ws chosen new : List Word) (w : Word) 
 chosen_step Is ws chosen new w true c d e = subst (λ l. AreChosen Is (ws ++ w ∷ []) l) (sym e) (chosen_more Is ws chosen w c (d.0 refl))
 chosen_step Is ws chosen new w false c d e =
     subst (λ l. AreChosen Is (ws ++ w ∷ []) l) (sym e) (chosen_same Is ws chosen w c (λ is. clash (d.1 is)))
+
+-- ---- two tests that say the same choose the same
+
+pub same_choice : (Is Also : Word → Type 0) → ((w : Word) → Is w → Also w) → ((w : Word) → Also w → Is w) → (ws chosen : List Word)
+    → AreChosen Is ws chosen → AreChosen Also ws chosen
+same_choice Is Also f g [] chosen c = c
+same_choice Is Also f g (w ∷ ws) chosen (inl c) = inl (f w c.0, c.1, c.2, same_choice Is Also f g ws c.1 c.3)
+same_choice Is Also f g (w ∷ ws) chosen (inr c) = inr ((λ a. c.0 (g w a)), same_choice Is Also f g ws chosen c.1)

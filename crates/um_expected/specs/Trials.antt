@@ -1,16 +1,19 @@
 -- What the search for expected words keeps.
 -- Source: this project's own.
-use Rattle.std.specs.Prelude.{◌≡◌, ℕ, ◌≤◌, ◌<◌, ◌==◌, ◌&&◌, ◌||◌, not, Bool, true, false, List, length}
+use Rattle.std.specs.Prelude.{◌≡◌, ◌⊎◌, ℕ, ◌≤◌, ◌<◌, ◌==◌, ◌&&◌, ◌||◌, not, Bool, true, false, List, ◌∷◌, ◌++◌, length}
+use Rattle.std.specs.Prelude.{slice_get}
 use Rattle.std.specs.Prelude.{Option, Some, None, Result, Ok, Err}
 use Rattle.std.specs.Bool.{Decides}
 use Rattle.um_syntax.specs.declared.token.Token.{Token}
 use Rattle.um_syntax.specs.Lexing.{is_power_place}
 use Rattle.um_tree.specs.declared.raw.RawProgram.{RawProgram}
+use Rattle.um_tree.specs.RawTree.{DeclSyntax}
 use Rattle.um_reader.specs.Texts.{BeginsTextWithin}
 use Rattle.um_types.specs.UnitStops.{greatest_height}
 use Rattle.um_types.specs.declared.parse.ParseStop.{ParseStop}
 use Rattle.um_types.specs.declared.parse.ParseStop.TheVariants as stop
 use Rattle.um_parse.specs.DeclGrammar.{IsProgram}
+use Rattle.um_parse.specs.Laws.{begins_declaration}
 use Rattle.um_parse.specs.ProgramHeights.{program_height}
 use Rattle.um_expected.specs.declared.tell.Tried.{Tried}
 use Rattle.um_expected.specs.Expected.{Place, FractionCanStand, TwoCanStand, OneCanStand, AllOperatorsStand}
@@ -58,3 +61,21 @@ read_by (Ok p) = Some true
 read_by (Err (stop.Syntax place)) = Some false
 read_by (Err (stop.Limit kind place)) = Some true
 read_by (Err stop.NoMemory) = None
+
+-- ---- the last declaration
+
+-- the tokens are a program
+abbrev pub Whole : List Token → Type 0
+Whole tokens = (ds : List DeclSyntax) × IsProgram tokens ds
+
+-- the number of a token that begins a declaration, or 0
+abbrev pub IsStart : List Token → ℕ → Type 0
+IsStart tokens k = (k ≡ 0) ⊎ ((t : Token) × (slice_get tokens k ≡ Some t) × (begins_declaration t.kind ≡ true))
+
+-- all tokens, or those from a declaration on, before which the tokens are a program
+abbrev pub IsLastPart : List Token → List Token → Type 0
+IsLastPart before part =
+    (before ≡ part)
+    ⊎ ((pre : List Token) × (ds : List DeclSyntax) × IsProgram pre ds
+    × (t : Token) × (rest : List Token) × (part ≡ t ∷ rest) × (begins_declaration t.kind ≡ true)
+    × (before ≡ pre ++ part))

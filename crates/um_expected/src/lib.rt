@@ -9,6 +9,7 @@
 #![tactic(auto)]
 
 pub mod laws;
+mod part;
 mod tell;
 mod trial;
 mod word;

@@ -11,10 +11,12 @@ ghost use Rattle.um_expected.specs.Expected.{AreExpected, IsExpected, NumberCanS
 ghost use Rattle.um_expected.specs.declared.word.Word.TheVariants as word;
 ghost use Rattle.um_expected.specs.Trials.{IsTried, number_told, one_told, told_alone, whole_told};
 
+use crate::part::last_part;
 use crate::trial::Trial;
 use crate::word::{Word, is_operator, operators, words};
 use std::alloc::{AllocError, Global};
 use um_frac::Frac;
+use um_parse::laws::declarations_are_cut;
 use um_syntax::{Kind, Letters, Symbol, Token};
 
 /// What is tried first: whether a number at the place is a power, and whether 5/2, 2, the digit 1 and all operators can
@@ -32,7 +34,8 @@ struct Tried {
 ///
 /// `before` are the tokens before the place, which begin a program within the heights, `at` is where it is, and `glued`
 /// says whether a token there is glued; the end isn't. A word is told exactly if its token at the place goes on
-/// beginning a program. The tokens are read some 60 times. Want of memory is the one error.
+/// beginning a program. The tokens are read once, and those from the last declaration on some 60 times. Want of memory
+/// is the one error.
 ///
 /// The words are those after viable prefixes, as in Knuth, On the Translation of Languages from Left to Right.
 pub fn expected(
@@ -47,7 +50,9 @@ pub fn expected(
     ensures expected { IfOk result (λ told.
         AreExpected (record { before = before.items; at = at; glued = glued }) told.items) }
 {
-    let mut trial = Trial::new(before, at, glued);
+    declarations_are_cut();
+    let part = last_part(alloc, before, at)?;
+    let mut trial = Trial::new(part, at, glued);
     let told = told_at(alloc, &mut trial);
     drop(trial);
     told

@@ -1,7 +1,11 @@
 //! Whether tokens go on beginning a program with one more.
-ghost use Rattle.std.specs.Prelude.{◌≡◌, IfOk, Some};
+ghost use Rattle.std.specs.Prelude.{◌≡◌, ◌≤◌, IfOk, Some, length};
 ghost use Rattle.std.specs.Bool.{Decides};
-ghost use Rattle.um_expected.specs.Trials.{begins_by, read_by};
+ghost use Rattle.um_reader.specs.Texts.{BeginsTextWithin};
+ghost use Rattle.um_types.specs.UnitStops.{greatest_height};
+ghost use Rattle.um_parse.specs.DeclGrammar.{IsProgram};
+ghost use Rattle.um_parse.specs.ProgramHeights.{program_height};
+ghost use Rattle.um_expected.specs.Trials.{Whole, begins_by, read_by};
 
 use std::alloc::{AllocError, Global};
 use std::marker::Model;
@@ -68,8 +72,17 @@ impl Trial {
     pub(crate) fn is_whole(&self, alloc: Global) -> Result<bool, AllocError>
         ensures { IfOk result (λ whole. Decides whole (IsWhole self.now)) }
     {
-        is_read(parse(alloc, &self.before, self.at))
+        is_program(alloc, &self.before, self.at)
     }
+}
+
+/// Whether tokens that begin a program within the heights are one. It takes the time of reading them.
+pub(crate) fn is_program(alloc: Global, tokens: &[Token], end: u32) -> Result<bool, AllocError>
+    requires begins { BeginsTextWithin IsProgram program_height greatest_height tokens.now }
+    requires short { length tokens.now ≤ end }
+    ensures { IfOk result (λ whole. Decides whole (Whole tokens.now)) }
+{
+    is_read(parse(alloc, tokens, end))
 }
 
 /// Whether tokens begin a program, by what parsing them answers. The last stands at `at`, and those before it begin one
