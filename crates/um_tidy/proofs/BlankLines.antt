@@ -55,6 +55,9 @@ past_twice above.Nothing = refl
 past_twice above.Line = refl
 past_twice above.Blank = refl
 
+pub feed_first : (c : ℕ) (cs : List ℕ) → is_line_feed c ≡ true → lines (c ∷ cs) ≡ [] ∷ lines cs
+feed_first c cs e = ap (λ b. cond b ([] ∷ lines cs) (in_front c (lines cs))) e
+
 module _ (last : Above → List ℕ → List ℕ) where
   -- a blank line, and what is left after the last of those that follow it
   record Passed (xs rest : List ℕ) : Type 0 where
@@ -70,9 +73,6 @@ module _ (last : Above → List ℕ → List ℕ) where
       ∙ line_and_more last a p.line p.others
       ∙ ap (λ text. comment_line a p.line text ++ each_line last (below a text) (lines p.others)) p.blank
       ∙ p.goes a
-
-  feed_first : (c : ℕ) (cs : List ℕ) → is_line_feed c ≡ true → lines (c ∷ cs) ≡ [] ∷ lines cs
-  feed_first c cs e = ap (λ b. cond b ([] ∷ lines cs) (in_front c (lines cs))) e
 
   more_by_test : (c : ℕ) (cs rest : List ℕ) (b : Bool) → is_line_feed c ≡ b → is_space c ≡ true → Passed cs rest → Passed (c ∷ cs) rest
   more_by_test c cs rest true e space p = record {

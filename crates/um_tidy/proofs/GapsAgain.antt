@@ -49,7 +49,7 @@ margin_alone (suc n) =
     let next : 1 + k ≡ suc k = omega arith in
     ap (λ m. take m (32 ∷ spaces n)) next ∙ ap (λ xs. 32 ∷ xs) (margin_alone n)
 
-width_spaces : (m n : ℕ) → width_from m (spaces n) ≡ m + n
+pub width_spaces : (m n : ℕ) → width_from m (spaces n) ≡ m + n
 width_spaces m zero = omega arith
 width_spaces m (suc n) = width_spaces (m + 1) n ∙ omega arith
 

@@ -6,6 +6,7 @@ pub mod BlankLines
 pub mod Encoded
 pub mod Printed
 pub mod GapsAgain
+pub mod StayingLines
 pub mod GapComments
 pub mod StandAgain
 pub mod Anew

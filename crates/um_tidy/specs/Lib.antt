@@ -5,3 +5,5 @@ pub mod Spaces
 pub mod Gaps
 pub mod Tidied
 pub mod Laws
+-- What mirrors the code.
+pub mod Staying

@@ -8,6 +8,7 @@ ghost use Rattle.um_tidy.specs.Gaps.{in_line, lines, trimmed, comment, width_fro
 ghost use Rattle.um_tidy.specs.Gaps.{past_blank, own_line, below, each_line, indentation, before_token, comment_after};
 ghost use Rattle.um_tidy.specs.Gaps.{line_end, first_gap, inner_gap, last_gap, only_gap};
 
+use crate::staying::push_staying;
 use memchr::{memchr, memrchr};
 use std::alloc::AllocError;
 
@@ -106,7 +107,7 @@ fn push_to_end(text: &mut Vec<u8>, above: Above, gap: &[u8]) -> Result<(), Alloc
     Ok(())
 }
 
-/// Adds all lines but the last, and tells that one.
+/// Adds all lines but the last, and tells that one. Comments that stay as they are are copied together.
 fn push_lines<'a>(text: &mut Vec<u8>, above: Above, gap: &'a [u8]) -> Result<Line<'a>, AllocError>
     requires { length gap.now ≤ 1048576 }
     ensures size { IfOk result (λ l. length l.rest.now ≤ length gap.now) }
@@ -119,7 +120,9 @@ fn push_lines<'a>(text: &mut Vec<u8>, above: Above, gap: &'a [u8]) -> Result<Lin
     let mut line = past_blank_lines(above, gap);
     'lines: while let Some(end) = line_feed(line.rest, line.margin) {
         let above = push_own_line(text, line.above, &line.rest[..end], line.margin)?;
-        line = past_blank_lines(above, &line.rest[end + 1..]);
+        let rest = &line.rest[end + 1..];
+        let len = push_staying(text, above, rest)?;
+        line = past_blank_lines(above, &rest[len..]);
     }
     Ok(line)
 }
@@ -269,7 +272,7 @@ fn line_len(bytes: &[u8]) -> usize
 }
 
 /// Where the first line feed stands from this place on.
-fn line_feed(bytes: &[u8], from: usize) -> Option<usize>
+pub(crate) fn line_feed(bytes: &[u8], from: usize) -> Option<usize>
     requires { from ≤ length bytes.now }
     ensures within { IfSome result (λ at. (from ≤ at) × (at < length bytes.now)) }
     ensures first { MatchOption result
@@ -333,7 +336,7 @@ fn width(space: &[u8]) -> usize
     width
 }
 
-fn is_space(byte: u8) -> bool
+pub(crate) fn is_space(byte: u8) -> bool
     ensures { result ≡ is_space byte }
 {
     byte == b' ' || byte == b'\t' || byte == b'\r' || byte == b'\n'

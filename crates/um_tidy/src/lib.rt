@@ -9,6 +9,7 @@ mod gap;
 pub mod laws;
 mod spacing;
 mod stand;
+mod staying;
 mod text;
 
 pub use text::tidy_text;

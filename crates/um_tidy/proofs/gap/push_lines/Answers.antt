@@ -1,4 +1,4 @@
-use Rattle.std.proofs.Common.{◌≡◌, sym, ap, ◌∙◌, ◌+◌, ◌++◌, length, drop, arith}
+use Rattle.std.proofs.Common.{◌≡◌, ◌<◌, sym, ap, ◌∙◌, ◌+◌, ◌-◌, ◌++◌, List, ℕ, length, take, drop, arith}
 use Rattle.std.specs.List.{prefix_len}
 use Rattle.std.proofs.lemmas.List.{length-drop}
 use Rattle.um_syntax.specs.Gap.{is_space}
@@ -24,34 +24,44 @@ push_own_line-requires-clause-margin c =
     let (after, within) = c.in-Some.ensures.within in
     l.invariant.margin ∙ sym (prefix_taken is_space l.line.rest.now c.in-Some.end (omega (arith, l.invariant.margin, after)))
 
-pub lines-smaller : goal.lines-smaller
-lines-smaller c =
-    let rest = c.lines.line.rest.now in
-    let end = c.in-Some.end in
-    let (after, within) = c.in-Some.ensures.within in
+-- what follows a line, and what follows those that stay as they are
+rest_within : (rest : List ℕ) (end len : ℕ) → let more = take (length rest - (end + 1)) (drop (end + 1) rest) in end < length rest → length (take (length more - len) (drop len more)) + end < length rest
+rest_within rest end len some =
+    let more = take (length rest - (end + 1)) (drop (end + 1) rest) in
     let same = ap length (tail_all rest (end + 1)) in
     let fewer = length-drop (end + 1) rest in
+    let last = ap length (tail_all more len) in
+    let shorter = length-drop len more in
+    omega (arith, same, fewer, last, shorter, some)
+
+pub lines-smaller : goal.lines-smaller
+lines-smaller c =
+    let (after, within) = c.in-Some.ensures.within in
+    let fewer = rest_within c.lines.line.rest.now c.in-Some.end c.in_ok-len.len within in
     let size = c.past_blank_lines-line-in-Some.ensures.size in
-    omega (arith, within, same, fewer, size)
+    omega (arith, fewer, size)
 
 pub lines-preserved : goal.lines-preserved
 lines-preserved c =
     let l = c.lines in
     let rest = l.line.rest.now in
     let end = c.in-Some.end in
+    let len = c.in_ok-len.len in
+    let more = take (length rest - (end + 1)) (drop (end + 1) rest) in
     let (after, within) = c.in-Some.ensures.within in
-    let same = ap length (tail_all rest (end + 1)) in
-    let fewer = length-drop (end + 1) rest in
+    let fewer = rest_within rest end len within in
     let next = c.past_blank_lines-line-in-Some.ensures in
     let size = next.size in
     let line : end ≡ prefix_len in_line rest = sym (l.invariant.line ∙ c.in-Some.ensures.first) in
     record {
-      size = omega (arith, within, same, fewer, size, l.invariant.size);
+      size = omega (arith, fewer, size, l.invariant.size);
       within = next.within;
       margin = next.margin;
       line = next.line;
       added = λ last.
-          ap (λ xs. c.push_own_line.new.text.items ++ xs) (next.lines last ∙ ap (λ xs. each_line last c.in_ok-above.above (lines xs)) (tail_all rest (end + 1)))
+          ap (λ xs. c.push_staying.new.text.items ++ xs) (next.lines last ∙ ap (λ xs. each_line last c.in_ok-above.above (lines xs)) (tail_all more len))
+          ∙ c.in_ok-len.ensures.added last
+          ∙ ap (λ xs. c.push_own_line.new.text.items ++ each_line last c.in_ok-above.above (lines xs)) (tail_all rest (end + 1))
           ∙ lines_step last l.line.above l.text.items _ rest end c.in_ok-above.above c.push_own_line.new.text.items line within c.in_ok-above.ensures.added c.in_ok-above.ensures.above (l.invariant.added last);
     }
 
