@@ -1,0 +1,9 @@
+mod Alike
+mod Ends
+mod Respelled
+mod RespelledBytes
+mod CaretTokens
+mod UnitPowers
+mod ExprPowers
+mod Powers
+mod Programs
