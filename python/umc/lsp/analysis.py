@@ -84,9 +84,9 @@ class Refusal:
 
 @dataclass(frozen=True)
 class Outcome:
-    """The types of a text, or why it has none."""
+    """What the program printed of the types of a text, or why it has none."""
 
-    known: Known | None
+    printed: str
     refusal: Refusal | None
 
 
@@ -162,11 +162,11 @@ class Analysis:
     def _ask_outcome(self) -> Outcome:
         answer = self.ask([self.command], self.text)
         if answer.status == 0:
-            return Outcome(self._parsed(answer.output.decode(), frozenset()), None)
+            return Outcome(answer.output.decode(), None)
         report = reports.of_answer(answer.status, answer.output)
         details = self.explanation(self.text, report)
         offset = None if report.line is None else self.offset(report.line, report.column or 1)
-        return Outcome(None, Refusal(report, offset, tuple(details)))
+        return Outcome("", Refusal(report, offset, tuple(details)))
 
     def explanation(self, text: str, report: Report) -> list[str]:
         """What `explain` says after the report line and the excerpt; nothing if the program has no such command."""
@@ -214,10 +214,9 @@ class Analysis:
     # ---- a text without the declarations that are refused
 
     def _ask_known(self) -> Known:
-        outcome = self.outcome
-        if outcome.known:
-            return outcome.known
-        refusal = outcome.refusal
+        refusal = self.outcome.refusal
+        if refusal is None:
+            return self._parsed(self.outcome.printed, frozenset())
         left_out: set[int] = set()
         for _ in range(ROUNDS):
             more = self._to_leave_out(refusal, left_out)
