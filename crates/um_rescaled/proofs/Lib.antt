@@ -1,0 +1,9 @@
+mod Picks
+mod UnitsReplaced
+mod TokensReplaced
+mod RescaledNumbers
+mod OtherFunctions
+mod ExprsReplaced
+mod DeclsReplaced
+mod Table
+mod Programs
