@@ -25,4 +25,4 @@ pub use laws::literals_begin_tokens;
 pub use prove::answer_prove;
 pub use rescale::answer_rescale;
 pub use tidy::answer_tidy;
-pub use types::answer_types;
+pub use types::{answer_types, schemes_text};

@@ -44,8 +44,13 @@ fn checked_text(alloc: Global, checked: &Checked) -> Result<Vec<u8>, AllocError>
     schemes_text(alloc, checked.program(), checked.schemes())
 }
 
-/// The line of each function's scheme, in order.
-fn schemes_text(alloc: Global, program: &Program, schemes: &Schemes) -> Result<Vec<u8>, AllocError>
+/// The text of the answer to `types` about a program with these schemes: a line for each function, in order, with its
+/// scheme. Want of memory is the one error. The schemes are Kennedy's (1996).
+pub fn schemes_text(
+    alloc: Global,
+    program: &Program,
+    schemes: &Schemes,
+) -> Result<Vec<u8>, AllocError>
     requires count { length schemes.now.items.items ≡ length (program_tree program.now).functions }
     ensures { IfOk result (λ text. text.items
         ≡ scheme_lines (program_tree program.now) (program_tree program.now).functions (scheme_trees schemes.now)) }

@@ -7,7 +7,6 @@ use Rattle.um_reports.proofs.ReportStatuses.{is_answered}
 use Rattle.um_front.specs.Stages.{CheckedTree, IsCheckedText}
 use Rattle.um_answers.specs.TypesAnswer.{TypesAnswer}
 use Rattle.um_answers.proofs.TextAnswers.{TypesAnswer-status, types_one, types_done}
-use Rattle.um_explain_answers.specs.Added.{IsNeverChecked}
 use Rattle.um_explain_answers.specs.ExplainAnswer.{is_explained, Explains, ExplainAnswer}
 use Rattle.um_explain_answers.proofs.UniqueRest.{one_rest}
 
@@ -45,10 +44,3 @@ module _ (bytes : List ℕ) where
   unfolding ExplainAnswer
   explain_done text status c is (line, answered, types, explains) =
       explains_done line text answered status (types_done bytes line answered c is types) explains
-
-  -- a text that is explained has no schemes
-  pub never_checked : (line : List ℕ) (answered : Status) → TypesAnswer bytes line answered → is_explained answered ≡ true → IsNeverChecked bytes
-  never_checked line answered types told c is =
-      let done : answered ≡ Done = types_done bytes line answered c is types in
-      let clash : false ≡ true = sym (ap is_explained done) ∙ told in
-      cc clash

@@ -1,5 +1,5 @@
 -- The answer to `explain` follows that to `types`.
-use Rattle.std.proofs.Common.{◌≡◌, ℕ, List, Bool, true, false, inl, inr, refl, sym, subst, ◌∙◌}
+use Rattle.std.proofs.Common.{◌≡◌, ℕ, List, Bool, true, false, inl, inr, refl, subst}
 use Rattle.um_parse.specs.Laws.{AnswersAreUnique}
 use Rattle.um_reports.specs.declared.status.Status.{Status}
 use Rattle.um_answers.proofs.TextAnswers.{types_one}

@@ -67,7 +67,7 @@ module _ (bytes text : List ℕ) (status : Status) where
     unshaped_explained (inr (inl (raw, written, stop, refused, reply))) = name_explained stop reply
     unshaped_explained (inr (inr (raw, written, p, resolved, stop, refused, reply))) = shape_explained stop reply
 
-    unchecked_explained : IsUnchecked bytes text status → IsTrue (is_explained status)
+    pub unchecked_explained : IsUnchecked bytes text status → IsTrue (is_explained status)
     unfolding IsUnchecked
     unchecked_explained (inl unshaped) = unshaped_explained unshaped
     unchecked_explained (inr (s, shaped, reply)) = untyped_explained s.program (infer s.program) reply

@@ -1,6 +1,6 @@
 -- Where a text is refused, a character begins or the text ends.
-use Rattle.std.proofs.Common.{◌≡◌, ℕ, ◌≤◌, ◌<◌, List, [], length, take, drop, inl, inr, None, Some, Ok, Err, subst, sym, arith}
-use Rattle.std.specs.Prelude.{slice_get, Option}
+use Rattle.std.proofs.Common.{◌≡◌, ℕ, List, length, inl, inr, Some, Ok, Err, subst, sym, arith}
+use Rattle.std.specs.Prelude.{slice_get}
 use Rattle.std.specs.Str.{IsUtf8}
 use Rattle.std.proofs.lemmas.List.{take_all}
 use Rattle.std.proofs.lemmas.Option.{slice_get_within}
@@ -34,7 +34,7 @@ use Rattle.um_readable.proofs.BeginningTokens.{tokens_begin_characters, syntax_f
 use Rattle.um_front.specs.Stages.{IsReadText}
 use Rattle.um_front.proofs.RowPlaces.{InferenceHolds, inference_holds, function_at}
 use Rattle.um_front.proofs.ShapePlaces.{first_fault_holds}
-use Rattle.um_explain_answers.specs.Added.{HasNames, IsTextPlace, ShapePlace, InferPlace}
+use Rattle.um_explain_answers.specs.Added.{IsTextPlace, ShapePlace, InferPlace}
 use Rattle.um_explain_answers.specs.SchemeRest.{function_place}
 
 pub text_place : (bytes : List ℕ) (stop : TextStop) → IsTextAnswer bytes (Err stop) → IsTextPlace bytes stop

@@ -13,16 +13,18 @@ use Rattle.um_shape.specs.declared.stop.ShapeStop.TheVariants as shape_stop
 use Rattle.um_infer.specs.declared.stop.InferStop.{InferStop}
 use Rattle.um_infer.specs.declared.stop.InferStop.TheVariants as infer_stop
 use Rattle.um_readable.specs.Places.{IsPlace}
-use Rattle.um_front.specs.Stages.{IsReadText, CheckedTree, IsCheckedText}
+use Rattle.um_reports.specs.declared.status.Status.{Status}
+use Rattle.um_front.specs.Stages.{IsReadText}
+use Rattle.um_front.specs.Refused.{IsUnchecked}
 use Rattle.um_explain_answers.specs.SchemeRest.{function_place}
 
 -- something of which P holds is added
 abbrev pub Adds : (List ℕ → Type 0) → List ℕ → List ℕ → Type 0
 Adds P before after = (rest : List ℕ) × (after ≡ before ++ rest) × P rest
 
--- no schemes were found for the text
-abbrev pub IsNeverChecked : List ℕ → Type 0
-IsNeverChecked bytes = (c : CheckedTree) → IsCheckedText bytes c → ⊥
+-- the text isn't too long, and is refused with this line
+abbrev pub IsRefused : List ℕ → List ℕ → Status → Type 0
+IsRefused bytes line status = (length bytes ≤ 1048576) × IsUnchecked bytes line status
 
 -- a text that was read stands for this program
 pub record HasNames (bytes : List ℕ) (raw : List DeclSyntax) (p : ProgramTree) : Type 0 where

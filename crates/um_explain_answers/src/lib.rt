@@ -9,6 +9,7 @@ mod answer;
 pub mod laws;
 mod names;
 mod place;
+mod refusal;
 mod schemes;
 mod tokens;
 

@@ -1,5 +1,6 @@
 // What follows the report line of a tree whose names stand for nothing, and of a program without shapes.
 ghost use Rattle.std.specs.Prelude.{◌≡◌, ◌++◌, ◌≤◌, IfOk, OnOk, Ok, length};
+ghost use Rattle.um_measures.specs.Stops.{IsFirst};
 ghost use Rattle.um_tree.specs.ProgramTree.{ProgramTree, program_tree};
 ghost use Rattle.um_tree.specs.RawTree.{program_syntax};
 ghost use Rattle.um_names.specs.Resolution.{resolved_program};
@@ -9,37 +10,47 @@ ghost use Rattle.um_sites.specs.NameDetails.{name_details as details_of_name, pl
 ghost use Rattle.um_mismatch.specs.ShapeDetails.{shape_details};
 ghost use Rattle.um_reports.specs.Places.{place_text};
 ghost use Rattle.um_readable.specs.Places.{IsPlace, NamePlace};
-ghost use Rattle.um_explain_answers.specs.Added.{Adds, HasNames, IsNeverChecked, ShapePlace};
+ghost use Rattle.um_shape.specs.FirstFault.{first_fault};
+ghost use Rattle.um_shape.specs.ShapedProgram.{IsRefusal};
+ghost use Rattle.um_explain_answers.specs.Added.{Adds, HasNames, ShapePlace};
+ghost use Rattle.um_explain_answers.specs.ExplainAnswer.{ExplainAnswer};
 ghost use Rattle.um_explain_answers.specs.NameRest.{IsNameRest, IsShapeRest};
-ghost use Rattle.um_explain_answers.specs.Stages.{AfterNames, AfterTree};
 
 use crate::place::{push_place, push_source};
-use crate::schemes::push_shaped_rest;
+use crate::refusal::explained;
+use crate::schemes::answer_shaped;
 use std::alloc::{AllocError, Global};
+use um_front::Answer;
 use um_measures::NameStop;
 use um_mismatch::push_shape_details;
 use um_names::{Resolved, resolve_all};
+use um_reports::{reply_to_names, reply_to_shapes};
 use um_shape::{ShapeStop, shape};
 use um_sites::name_details;
 use um_text_details::push_limit_details;
 use um_tree::{Program, RawProgram};
 use um_types::LimitKind;
 
-/// Adds what follows the report line of a text that was read.
-pub(crate) fn push_tree_rest(
-    alloc: Global,
-    text: &mut Vec<u8>,
-    bytes: &[u8],
-    raw: &RawProgram,
-) -> Result<(), AllocError>
+/// The answer about a text that was read.
+pub(crate) fn answer_tree(alloc: Global, bytes: &[u8], raw: &RawProgram) -> Answer
     requires read { IsReadText bytes.now (program_syntax raw.now) }
-    requires refused { IsNeverChecked bytes.now }
-    ensures { OnOk result (Adds (AfterTree bytes.now (program_syntax raw.now)) text.old.items text.new.items) }
+    ensures { IfOk result (λ reply. ExplainAnswer bytes.now reply.text.items reply.status) }
 {
     match resolve_all(alloc, raw) {
-        Ok(all) => push_resolved_rest(alloc, text, bytes, raw, all),
-        Err(stop) => push_name_rest(alloc, text, bytes, raw, stop),
+        Ok(all) => answer_resolved(alloc, bytes, raw, all),
+        Err(stop) => explain_names(alloc, bytes, raw, stop),
     }
+}
+
+/// The answer about a tree with a fault of names.
+fn explain_names(alloc: Global, bytes: &[u8], raw: &RawProgram, stop: NameStop) -> Answer
+    requires read { IsReadText bytes.now (program_syntax raw.now) }
+    requires stop { IsFirst (resolved_program (program_syntax raw.now)) stop }
+    ensures { IfOk result (λ reply. ExplainAnswer bytes.now reply.text.items reply.status) }
+{
+    let mut refusal = reply_to_names(alloc, bytes, stop)?;
+    let added = push_name_rest(alloc, &mut refusal.text, bytes, raw, stop);
+    explained(refusal, added)
 }
 
 /// Adds what follows the report line of a tree with a fault of names.
@@ -116,18 +127,10 @@ fn push_earlier(text: &mut Vec<u8>, bytes: &[u8], at: Option<u32>) -> Result<(),
     }
 }
 
-/// Adds what follows the report line of a text whose names are known.
-fn push_resolved_rest(
-    alloc: Global,
-    text: &mut Vec<u8>,
-    bytes: &[u8],
-    raw: &RawProgram,
-    all: Resolved,
-) -> Result<(), AllocError>
+/// The answer about a text whose names are known.
+fn answer_resolved(alloc: Global, bytes: &[u8], raw: &RawProgram, all: Resolved) -> Answer
     requires names { HasNames bytes.now (program_syntax raw.now) (program_tree all.program) }
-    requires refused { IsNeverChecked bytes.now }
-    ensures { OnOk result (Adds (AfterNames bytes.now (program_syntax raw.now) (program_tree all.program))
-        text.old.items text.new.items) }
+    ensures { IfOk result (λ reply. ExplainAnswer bytes.now reply.text.items reply.status) }
 {
     let Resolved {
         program,
@@ -136,12 +139,24 @@ fn push_resolved_rest(
     drop(abbreviations);
     match shape(alloc, program) {
         Ok(shaped) => {
-            let added = push_shaped_rest(alloc, text, bytes, raw, &shaped);
+            let answer = answer_shaped(alloc, bytes, raw, &shaped);
             drop(shaped);
-            added
+            answer
         }
-        Err(stop) => push_shape_rest(alloc, text, bytes, raw, stop),
+        Err(stop) => explain_shapes(alloc, bytes, raw, stop),
     }
+}
+
+/// The answer about a program with a node without a shape.
+fn explain_shapes(alloc: Global, bytes: &[u8], raw: &RawProgram, stop: ShapeStop) -> Answer
+    requires read { IsReadText bytes.now (program_syntax raw.now) }
+    requires stop { (p : ProgramTree) × (resolved_program (program_syntax raw.now) ≡ Ok p)
+        × IsRefusal (first_fault p) stop }
+    ensures { IfOk result (λ reply. ExplainAnswer bytes.now reply.text.items reply.status) }
+{
+    let mut refusal = reply_to_shapes(alloc, bytes, stop)?;
+    let added = push_shape_rest(alloc, &mut refusal.text, bytes, raw, stop);
+    explained(refusal, added)
 }
 
 /// Adds what follows the report line of a program with a node without a shape.

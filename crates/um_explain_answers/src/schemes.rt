@@ -2,44 +2,77 @@
 ghost use Rattle.std.specs.Prelude.{◌≡◌, ◌++◌, ◌≤◌, IfOk, OnOk, None, Ok, Err, length};
 ghost use Rattle.um_tree.specs.ProgramTree.{program_tree};
 ghost use Rattle.um_tree.specs.RawTree.{program_syntax};
-ghost use Rattle.um_infer.specs.Answers.{IsInferred};
+ghost use Rattle.um_infer.specs.Answers.{IsInferred, SaysOfTypings, scheme_trees};
 ghost use Rattle.um_readable.specs.Places.{IsPlace};
 ghost use Rattle.um_shape.specs.FirstFault.{first_fault};
-ghost use Rattle.um_explain_answers.specs.Added.{Adds, HasNames, IsNeverChecked, InferPlace};
+ghost use Rattle.um_reports.specs.Steps.{IsReply};
+ghost use Rattle.um_reports.specs.declared.status.Status.TheVariants.{Done};
+ghost use Rattle.um_answers.specs.TypesAnswer.{scheme_lines};
+ghost use Rattle.um_explain_answers.specs.Added.{Adds, HasNames, InferPlace};
+ghost use Rattle.um_explain_answers.specs.ExplainAnswer.{ExplainAnswer};
 ghost use Rattle.um_explain_answers.specs.SchemeRest.{IsSchemeRest};
-ghost use Rattle.um_explain_answers.specs.Stages.{AfterShapes};
 
 use crate::place::push_source;
+use crate::refusal::explained;
 use std::alloc::{AllocError, Global};
-use um_front::function_at;
+use um_answers::schemes_text;
+use um_front::{Answer, function_at, reply_to_untyped};
 use um_infer::{InferStop, infer};
+use um_reports::{Reply, Status};
 use um_shape::Shaped;
 use um_text_details::{push_limit_details, push_range_details};
-use um_tree::RawProgram;
+use um_tree::{RawProgram, Schemes};
 use um_types::LimitKind;
 use um_unit_lines::push_units;
 
-/// Adds what follows the report line of a text with its shapes.
-pub(crate) fn push_shaped_rest(
+/// The answer about a text with its shapes.
+pub(crate) fn answer_shaped(
     alloc: Global,
-    text: &mut Vec<u8>,
     bytes: &[u8],
     raw: &RawProgram,
     shaped: &Shaped,
-) -> Result<(), AllocError>
+) -> Answer
     requires names { HasNames bytes.now (program_syntax raw.now) (program_tree shaped.now) }
     requires faultless { first_fault (program_tree shaped.now) ≡ None }
-    requires refused { IsNeverChecked bytes.now }
-    ensures { OnOk result (Adds (AfterShapes bytes.now (program_syntax raw.now) (program_tree shaped.now))
-        text.old.items text.new.items) }
+    ensures { IfOk result (λ reply. ExplainAnswer bytes.now reply.text.items reply.status) }
 {
     match infer(alloc, shaped) {
-        Ok(schemes) => {
-            drop(schemes);
-            unreachable!()
-        }
-        Err(stop) => push_scheme_rest(alloc, text, bytes, raw, shaped, stop),
+        Ok(schemes) => reply_schemes(alloc, shaped, schemes),
+        Err(stop) => explain_schemes(alloc, bytes, raw, shaped, stop),
     }
+}
+
+/// The schemes of the functions.
+fn reply_schemes(alloc: Global, shaped: &Shaped, schemes: Schemes) -> Answer
+    requires count { length schemes.items.items ≡ length (program_tree shaped.now).functions }
+    ensures { IfOk result (λ reply. IsReply reply.text.items reply.status
+        (scheme_lines (program_tree shaped.now) (program_tree shaped.now).functions (scheme_trees schemes)) Done) }
+{
+    let text = schemes_text(alloc, shaped.program(), &schemes);
+    drop(schemes);
+    Ok(Reply {
+        text: text?,
+        status: Status::Done,
+    })
+}
+
+/// The answer about a function without a scheme.
+fn explain_schemes(
+    alloc: Global,
+    bytes: &[u8],
+    raw: &RawProgram,
+    shaped: &Shaped,
+    stop: InferStop,
+) -> Answer
+    requires names { HasNames bytes.now (program_syntax raw.now) (program_tree shaped.now) }
+    requires faultless { first_fault (program_tree shaped.now) ≡ None }
+    requires inferred { IsInferred (program_tree shaped.now) (Err stop) }
+    requires typings { SaysOfTypings (program_tree shaped.now) (Err stop) }
+    ensures { IfOk result (λ reply. ExplainAnswer bytes.now reply.text.items reply.status) }
+{
+    let mut refusal = reply_to_untyped(alloc, bytes, shaped, stop)?;
+    let added = push_scheme_rest(alloc, &mut refusal.text, bytes, raw, shaped, stop);
+    explained(refusal, added)
 }
 
 /// Adds what follows the report line of a function without a scheme.

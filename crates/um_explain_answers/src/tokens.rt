@@ -1,24 +1,38 @@
 // What follows the report line of a text without tokens, and of tokens that are no program.
-ghost use Rattle.std.specs.Prelude.{◌≡◌, ◌++◌, ◌≤◌, OnOk, Err, Ok, Some, length};
+ghost use Rattle.std.specs.Prelude.{◌≡◌, ◌++◌, ◌≤◌, IfOk, OnOk, Err, Ok, Some, length};
 ghost use Rattle.um_syntax.specs.Feeding.{IsTextAnswer};
 ghost use Rattle.um_parse.specs.Parsed.{Parsed};
 ghost use Rattle.um_types.specs.declared.parse.ParseStop.TheVariants as parse_stop;
-ghost use Rattle.um_explain_answers.specs.Added.{Adds, IsNeverChecked, IsTextPlace};
+ghost use Rattle.um_explain_answers.specs.Added.{Adds, IsTextPlace};
+ghost use Rattle.um_explain_answers.specs.ExplainAnswer.{ExplainAnswer};
 ghost use Rattle.um_readable.specs.Places.{IsPlace, ParsePlace};
-ghost use Rattle.um_explain_answers.specs.Stages.{AfterTokens};
 ghost use Rattle.um_explain_answers.specs.TokenRest.{IsParseRest, IsSyntaxRest, IsTextRest, missing_line};
 
-use crate::names::push_tree_rest;
+use crate::names::answer_tree;
 use crate::place::{push_place, push_source};
+use crate::refusal::explained;
 use std::alloc::{AllocError, Global};
 use um_excerpt::push_excerpt_of_end;
+use um_front::Answer;
 use um_parse::parse;
+use um_reports::{reply_to_text, reply_to_tokens};
 use um_syntax::{TextStop, Token};
 use um_text_details::{push_expected, push_limit_details, push_text_details};
 use um_types::ParseStop;
 
+/// The answer about a text without tokens.
+pub(crate) fn explain_text(alloc: Global, bytes: &[u8], stop: TextStop) -> Answer
+    requires short { length bytes.now ≤ 1048576 }
+    requires stop { IsTextAnswer bytes.now (Err stop) }
+    ensures { IfOk result (λ reply. ExplainAnswer bytes.now reply.text.items reply.status) }
+{
+    let mut refusal = reply_to_text(alloc, bytes, stop)?;
+    let added = push_text_rest(alloc, &mut refusal.text, bytes, stop);
+    explained(refusal, added)
+}
+
 /// Adds what follows the report line of a text without tokens.
-pub(crate) fn push_text_rest(
+fn push_text_rest(
     alloc: Global,
     text: &mut Vec<u8>,
     bytes: &[u8],
@@ -46,26 +60,32 @@ pub(crate) fn push_text_rest(
     }
 }
 
-/// Adds what follows the report line of a text with these tokens.
-pub(crate) fn push_tokens_rest(
-    alloc: Global,
-    text: &mut Vec<u8>,
-    bytes: &[u8],
-    tokens: &[Token],
-) -> Result<(), AllocError>
+/// The answer about a text with these tokens.
+pub(crate) fn answer_tokens(alloc: Global, bytes: &[u8], tokens: &[Token]) -> Answer
     requires short { length bytes.now ≤ 1048576 }
     requires tokens { IsTextAnswer bytes.now (Ok tokens.now) }
-    requires refused { IsNeverChecked bytes.now }
-    ensures { OnOk result (Adds (AfterTokens bytes.now tokens.now) text.old.items text.new.items) }
+    ensures { IfOk result (λ reply. ExplainAnswer bytes.now reply.text.items reply.status) }
 {
     match parse(alloc, tokens, bytes.len() as u32) {
         Ok(raw) => {
-            let added = push_tree_rest(alloc, text, bytes, &raw);
+            let answer = answer_tree(alloc, bytes, &raw);
             drop(raw);
-            added
+            answer
         }
-        Err(stop) => push_parse_rest(alloc, text, bytes, tokens, stop),
+        Err(stop) => explain_tokens(alloc, bytes, tokens, stop),
     }
+}
+
+/// The answer about tokens that are no program within the limits.
+fn explain_tokens(alloc: Global, bytes: &[u8], tokens: &[Token], stop: ParseStop) -> Answer
+    requires short { length bytes.now ≤ 1048576 }
+    requires tokens { IsTextAnswer bytes.now (Ok tokens.now) }
+    requires stop { Parsed tokens.now (length bytes.now) (Err stop) }
+    ensures { IfOk result (λ reply. ExplainAnswer bytes.now reply.text.items reply.status) }
+{
+    let mut refusal = reply_to_tokens(alloc, bytes, stop)?;
+    let added = push_parse_rest(alloc, &mut refusal.text, bytes, tokens, stop);
+    explained(refusal, added)
 }
 
 /// Adds what follows the report line of tokens that are no program within the limits.

@@ -54,8 +54,8 @@ fn check_shaped(alloc: Global, text: ShapedText) -> Result<Checked, Answer>
     }
 }
 
-/// The refusal of the first function without a scheme.
-fn reply_to_untyped(alloc: Global, bytes: &[u8], shaped: &Shaped, stop: InferStop) -> Answer
+/// The refusal of the first function without a scheme, by the answer of `infer`. Want of memory is the one error.
+pub fn reply_to_untyped(alloc: Global, bytes: &[u8], shaped: &Shaped, stop: InferStop) -> Answer
     requires inferred { IsInferred (program_tree shaped.now) (Err stop) }
     requires typings { SaysOfTypings (program_tree shaped.now) (Err stop) }
     ensures { IfOk result (λ reply. IsUntypedReply bytes.now reply.text.items reply.status
