@@ -18,6 +18,7 @@ mod lexer;
 mod number;
 mod pending;
 mod place;
+mod preceding;
 mod scanner;
 mod token;
 mod vocabulary;

@@ -2,9 +2,7 @@
 ghost use Rattle.std.specs.Prelude.{◌≡◌, true, ◌+◌, ◌<◌, ◌≤◌, ◌^◌, ◌==◌, ◌&&◌, [], length, slice_index, take, max};
 ghost use Rattle.std.specs.Prelude.{OnOk, OnErr, IfOk};
 ghost use Rattle.std.specs.Char.{len_utf8};
-ghost use Rattle.std.specs.Option.{option_copied};
 ghost use Rattle.std.specs.String.{string_bytes};
-ghost use Rattle.um_syntax.specs.Lexing.{is_glued, is_power_place, is_caret, is_minus};
 ghost use Rattle.um_syntax.specs.Machine.{scan_start, free_at, step, ended, taken, close, begun, pushed};
 ghost use Rattle.um_syntax.specs.Machine.{identifier_pushed, variable_pushed, begins_name, letters_kind, FiguresFit};
 ghost use Rattle.um_syntax.specs.Machine.{PendingFits};
@@ -16,6 +14,7 @@ use crate::pending::{
     Pending, begins_name, comment_len, ends_number, is_blank, is_space, name_len, number_with,
     starts_name,
 };
+use crate::preceding::{is_glued, is_power_place};
 use crate::token::{Kind, Letters, LexStop, Token, Tokens};
 use crate::vocabulary::{
     Symbol, are_slashes, double_symbol, front_symbol, keyword_of, single_symbol,
@@ -33,54 +32,6 @@ pub struct Scanner {
     // The letters of a name that has begun.
     letters: String,
     pending: Pending,
-}
-
-// Whether the token is `^`.
-fn is_caret(token: Option<&Token>) -> bool
-    ensures { result ≡ is_caret (option_copied token.entry) }
-{
-    match token {
-        Some(
-            Token {
-                kind: Kind::Sign(Symbol::Caret),
-                ..
-            },
-        ) => true,
-        _ => false,
-    }
-}
-
-// Whether the token is `-`.
-fn is_minus(token: Option<&Token>) -> bool
-    ensures { result ≡ is_minus (option_copied token.entry) }
-{
-    match token {
-        Some(
-            Token {
-                kind: Kind::Sign(Symbol::Minus),
-                ..
-            },
-        ) => true,
-        _ => false,
-    }
-}
-
-// Whether a number after the tokens is a power.
-fn is_power_place(tokens: &[Token]) -> bool
-    ensures { result ≡ is_power_place tokens.now }
-{
-    is_caret(tokens.last())
-        || (is_minus(tokens.last()) && is_caret(tokens.get(tokens.len().saturating_sub(2))))
-}
-
-// Whether a token that starts there directly follows the last.
-fn is_glued(tokens: &[Token], start: u32) -> bool
-    ensures { result ≡ is_glued tokens.now start }
-{
-    match tokens.last() {
-        Some(token) => token.end == start,
-        None => false,
-    }
 }
 
 impl Scanner {
