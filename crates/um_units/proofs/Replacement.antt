@@ -1,9 +1,10 @@
 -- The laws of replacements: a replacement is a homomorphism, and replacements compose.
 -- Source: Kennedy (1996): substitutions of units for unit variables.
-use Rattle.std.proofs.Common.{◌≡◌, ◌≢◌, ℕ, ◌<◌, true, false, List, [], ◌∷◌, map, length, ℤ, pos, negsuc, ◌+ℤ◌, ◌*ℤ◌, refl, sym, ap, ◌∙◌, arith}
-use Rattle.std.specs.Prelude.{IsTrue}
+use Rattle.std.proofs.Common.{◌≡◌, ◌≢◌, ℕ, ◌<◌, true, false, List, [], ◌∷◌, ◌++◌, map, length, ℤ, pos, negsuc, ◌+ℤ◌, ◌*ℤ◌, refl, sym, ap, ◌∙◌, arith}
+use Rattle.std.specs.Prelude.{All, IsTrue}
 use Rattle.std.proofs.lemmas.Int.{ints}
 use Rattle.std.proofs.lemmas.List.{get_or-map}
+use Rattle.std.proofs.lemmas.List.Elements.{All-head, All-tail}
 use Rattle.um_units.specs.declared.Atom.{Atom}
 use Rattle.um_units.specs.declared.Atom.TheVariants.{Base, Var}
 use Rattle.um_units.specs.declared.Term.{Term}
@@ -98,6 +99,22 @@ images-same ts = same_product _ _ (λ x. weigh-images (indicator x) (λ k. atom 
 
 pub replace-same : (u : PowerMap) → replace (λ k. atom (Var k)) u ≡ u
 replace-same u = same_unit _ _ (λ x. weight-replace (indicator x) (λ k. atom (Var k)) u ∙ weigh_alike _ _ (image-same x) u.terms)
+
+-- ---- atoms for which they are put themselves
+module _ (s : ℕ → PowerMap) where
+  image_stays : (x : Atom) → image s x ≡ atom x → image s x ≡ image (λ k. atom (Var k)) x
+  image_stays (Base n) e = refl
+  image_stays (Var k) e = e
+
+  images_stay : (ts : List Term) → All (λ (t : Term). image s t.atom ≡ atom t.atom) ts → images s ts ≡ images (λ k. atom (Var k)) ts
+  images_stay [] h = refl
+  images_stay (t ∷ ts) h =
+      let first = image_stays t.atom (All-head (λ (t : Term). image s t.atom ≡ atom t.atom) t ts h) in
+      let rest = images_stay ts (All-tail (λ (t : Term). image s t.atom ≡ atom t.atom) t ts h) in
+      λ i. map (scale t.power) (first i).terms ++ rest i
+
+pub replace-stays : (s : ℕ → PowerMap) (u : PowerMap) → All (λ (t : Term). image s t.atom ≡ atom t.atom) u.terms → replace s u ≡ u
+replace-stays s u h = ap product (images_stay s u.terms h) ∙ replace-same u
 
 -- ---- one replacement after another
 pub image-replace : (s t : ℕ → PowerMap) (x : Atom) → replace t (image s x) ≡ image (λ k. replace t (s k)) x

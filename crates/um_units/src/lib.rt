@@ -30,6 +30,7 @@ use thiserror::Error;
 mod images;
 mod merge;
 mod short;
+mod staying;
 mod wide;
 
 use wide::WideTerm;
@@ -236,7 +237,11 @@ impl Unit {
         ensures exact { IfOk result (λ unit. unit ≡ replace (nth by.now) self.now) }
         ensures range { RangeUnless result (fits (replace (nth by.now) self.now)) }
     {
-        match self.terms() {
+        let terms = self.terms();
+        if staying::all_stay(by, terms) {
+            return Ok(self.copy(alloc)?);
+        }
+        match terms {
             [term] => short::put_in_power(alloc, by, self, *term),
             [first, second] => short::put_in_pair(alloc, by, self, *first, *second),
             _ => self.replace_terms(alloc, by),

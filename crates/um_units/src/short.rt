@@ -8,7 +8,7 @@ use crate::{Atom, Term, Unit, UnitStop};
 use std::alloc::Global;
 
 /// What is put for the atom, if that is one of these units. Otherwise the atom stays.
-fn put_for(by: &[Unit], a: Atom) -> Option<&Unit>
+pub(crate) fn put_for(by: &[Unit], a: Atom) -> Option<&Unit>
     ensures put { IfSome result (λ u. u.now ≡ image (nth by.now) a) }
     ensures stays { IfNone result (image (nth by.now) a ≡ atom a) }
 {
