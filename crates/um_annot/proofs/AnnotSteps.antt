@@ -1,13 +1,14 @@
 -- The steps of an annotation: types pushed one by one, their variables, and the types put back at their nodes.
-use Rattle.std.proofs.Common.{◌≡◌, ℕ, ◌+◌, ◌<◌, ◌≤◌, Bool, true, false, cond, nat_le, List, [], ◌∷◌, ◌++◌, map, drop, take, length, get_or, Option, Some, None, inl, inr, refl, sym, ap, ◌∙◌, subst, arith, take-append-drop}
+use Rattle.std.proofs.Common.{◌≡◌, ℕ, ◌+◌, ◌<◌, ◌≤◌, Bool, true, false, cond, nat_le, List, [], ◌∷◌, ◌++◌, map, drop, take, set, length, get_or, Some, None, inl, inr, refl, sym, ap, ◌∙◌, subst, arith, take-append-drop}
 use Rattle.std.specs.Prelude.{All}
 use Rattle.std.proofs.lemmas.Bool.{cases_Bool, cond-true, cond-false}
-use Rattle.std.proofs.lemmas.List.{append_assoc, map-append, length-map, length-take-le, take_more}
+use Rattle.std.proofs.lemmas.List.{append_assoc, map-append, length-map, length-take-le, take_more, take_more_set, drop_more, get_or-drop}
 use Rattle.std.proofs.lemmas.List.Elements.{All-append}
 use Rattle.um_units.specs.PowerMap.{PowerMap, nth}
 use Rattle.um_units.specs.Variables.{VariablesBelow}
 use Rattle.um_tree.specs.declared.types.Ty.{Ty}
-use Rattle.um_tree.specs.TypeTree.{TypeTree, type_tree}
+use Rattle.um_tree.specs.declared.types.Types.{Types}
+use Rattle.um_tree.specs.TypeTree.{TypeTree, type_tree, type_trees}
 use Rattle.um_tree.specs.Typing.{put}
 use Rattle.um_tree.specs.Scheme.{type_variables, variables}
 use Rattle.um_elim.specs.Application.{type_fits}
@@ -16,7 +17,7 @@ use Rattle.um_elim.proofs.GrowingOrder.{All-front, All-back}
 use Rattle.um_rows.specs.declared.nodes.NodeType.{NodeType}
 use Rattle.um_rows.specs.NodeTypes.{TypedNode, typed_node}
 use Rattle.um_infer.proofs.FormingSteps.{puts_below}
-use Rattle.um_annot.specs.TextOrder.{put_in, ordered, in_text_order, node_with}
+use Rattle.um_annot.specs.TextOrder.{put_in, in_text_order, node_with}
 use Rattle.um_annot.specs.Annotated.{node_types, first_past, numbered, general}
 use Rattle.um_annot.specs.declared.stop.AnnotStop.{AnnotStop}
 use Rattle.um_annot.specs.declared.stop.AnnotStop.TheVariants as stop
@@ -149,3 +150,25 @@ retyped_more ns ts i n t below inside is same =
     let types : map type_tree (take (i + 1) ts) ≡ map type_tree (take i ts) ++ type_tree t ∷ [] = ap (map type_tree) (take_more ts i t inside ∙ ap (λ x. take i ts ++ x ∷ []) (sym same)) ∙ map-append type_tree (take i ts) (t ∷ []) in
     (λ j. retyped (next_nodes ns i n below is j) (types j))
     ∙ retyped_append (map typed_node (take i ns)) (map type_tree (take i ts)) (typed_node n) (type_tree t) long
+
+-- a type is put at the node that comes next, and the lists stay after it
+same_next : {X : Type 0} (xs ys : List X) (i : ℕ) (d : X) → i < length xs → i < length ys → drop i xs ≡ drop i ys → get_or xs i d ≡ get_or ys i d
+same_next xs ys i d below inside h = let both : get_or xs i d ∷ drop (i + 1) xs ≡ get_or ys i d ∷ drop (i + 1) ys = sym (drop_more xs i d below) ∙ h ∙ drop_more ys i d inside in cc both
+
+pub put_more : (ns old : List NodeType) (ts : List Ty) (i : ℕ) (n m : NodeType) (t : Ty) → i < length ns → i < length old → i < length ts → n ≡ get_or ns i n → drop i ns ≡ drop i old → t ≡ get_or ts i t → typed_node m ≡ record { at = n.at; type = type_tree t } →
+    map typed_node (take i ns) ≡ retyped (map typed_node (take i old)) (map type_tree (take i ts)) → map typed_node (take (i + 1) (set ns i m)) ≡ retyped (map typed_node (take (i + 1) old)) (map type_tree (take (i + 1) ts))
+put_more ns old ts i n m t below inside low is left same made done =
+    ap (map typed_node) (take_more_set ns i m below) ∙ map-append typed_node (take i ns) (m ∷ [])
+    ∙ (λ j. done j ++ made j ∷ [])
+    ∙ sym (retyped_more old ts i n t inside low (is ∙ same_next ns old i n below inside left) same)
+
+-- the type at the place, where some heads come first
+pub type_next : (now ts : List Ty) (heads i : ℕ) (t : Ty) → heads + i < length now → heads + i < length ts → drop (heads + i) now ≡ drop (heads + i) ts → t ≡ get_or now (heads + i) t → t ≡ get_or (drop heads ts) i t
+type_next now ts heads i t below inside left is = is ∙ same_next now ts (heads + i) t below inside left ∙ sym (get_or-drop heads ts i t)
+
+-- numbering and changing types keep their number
+pub numbered_count : (f : TypeTree → TypeTree) (ts us vs : Types) → type_trees us ≡ map f (type_trees ts) → type_trees vs ≡ renumbered (type_trees us) → length vs.items.items ≡ length ts.items.items
+numbered_count f ts us vs e h =
+    sym (length-map vs.items.items type_tree) ∙ ap length h
+    ∙ length-map (type_trees us) (put (by_place (variable_order (type_trees us)))) ∙ ap length e
+    ∙ length-map (type_trees ts) f ∙ length-map ts.items.items type_tree

@@ -20,6 +20,12 @@ IsAnnotated a (Err stop.NoMemory) = Unit {0}
 
 -- ---- steps of the code
 
+-- the nodes are those of the annotation, or the stop is its
+abbrev pub IsPutAt : Annotation → List TypedNode → Result (Unit {0}) AnnotStop → Type 0
+IsPutAt a nodes (Ok _) = a ≡ annotated nodes
+IsPutAt a nodes (Err (stop.PowerRange at)) = a ≡ past_range at
+IsPutAt a nodes (Err stop.NoMemory) = Unit {0}
+
 -- no memory was left for the equations
 abbrev pub IsMemory : RowStop → Type 0
 IsMemory row_stop.Slots = ⊥

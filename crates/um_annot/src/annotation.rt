@@ -1,5 +1,5 @@
 //! The types of a function's nodes.
-ghost use Rattle.std.specs.Prelude.{◌≡◌, ◌<◌, ◌≤◌, ◌+◌, ◌^◌, ◌++◌, All, IfOk, OnOk, MatchResult, false, length, map};
+ghost use Rattle.std.specs.Prelude.{ℕ, ◌≡◌, ◌<◌, ◌≤◌, ◌+◌, ◌^◌, ◌++◌, All, IfOk, OnOk, MatchResult, false, length, map};
 ghost use Rattle.std.specs.Prelude.{slice_get, Some, None, [], ◌∷◌, drop};
 ghost use Rattle.um_units.specs.PowerMap.{nth};
 ghost use Rattle.um_units.specs.Variables.{VariablesBelow};
@@ -20,17 +20,17 @@ ghost use Rattle.um_infer.specs.Inference.{all_schemes, infer};
 ghost use Rattle.um_infer.specs.Forming.{IsSolutionOf};
 ghost use Rattle.um_annot.specs.TextOrder.{in_text_order, node_with};
 ghost use Rattle.um_annot.specs.Annotated.{annotation, by_solving, by_heads, first_past, node_types, general};
-ghost use Rattle.um_annot.specs.Answers.{IsAnnotated, StopsAt, IsMemory, solved_nodes, retyped};
+ghost use Rattle.um_annot.specs.Answers.{IsAnnotated, IsPutAt, StopsAt, IsMemory, solved_nodes, retyped};
 ghost use Rattle.um_annot.specs.declared.stop.AnnotStop.TheVariants.{NoMemory};
 
 use crate::AnnotStop;
 use crate::order::put_in_text_order;
 use std::alloc::{AllocError, Global};
+use std::mem;
 use um_elim::{ElimStop, Numbered, Solver, renumber};
 use um_infer::{Solution, general_types, most_general};
 use um_rows::{NodeType, NodeTypes, RowStop, Rows, TypedRows, typed_rows};
 use um_shape::Shaped;
-use um_slots::copied;
 use um_tree::{Schemes, Ty, Types};
 
 /// What is known of a function: its number of unit parameters, the place of its name, and the number of base units.
@@ -142,13 +142,20 @@ fn annotated_nodes(
 {
     let Solution { solver, types } = solution;
     let NodeTypes { items: mut nodes } = nodes;
-    let made = annotated_with(alloc, head, slots, &solver, types, &mut nodes);
-    drop(solver);
-    drop(nodes);
-    made
+    match annotated_with(alloc, head, slots, &solver, types, &mut nodes) {
+        Ok(()) => {
+            drop(solver);
+            Ok(NodeTypes { items: nodes })
+        }
+        Err(stop) => {
+            drop(solver);
+            drop(nodes);
+            Err(stop)
+        }
+    }
 }
 
-/// The types of the nodes by the solver and the solved types of the function.
+/// The nodes in the order of the text, with their types by the solver and the solved types of the function.
 fn annotated_with(
     alloc: Global,
     head: Head,
@@ -156,19 +163,19 @@ fn annotated_with(
     solver: &Solver,
     types: Types,
     nodes: &mut Vec<NodeType>,
-) -> Result<NodeTypes, AnnotStop>
+) -> Result<(), AnnotStop>
     requires unspent { solver.now.spent ≡ false }
     requires slots { slots + head.parameters < 4294967295 }
     requires bases { head.bases + head.parameters < 2 ^ 32 }
     requires types { All (λ k. k < slots) (variables (type_trees types)) }
     requires nodes { All (λ k. k < slots) (variables (node_types (solved_nodes solver.now.units
         (map typed_node nodes.old.items)))) }
-    ensures { IsAnnotated (by_heads head.bases head.parameters slots (type_trees types)
-        (solved_nodes solver.now.units (in_text_order (map typed_node nodes.old.items)))) result }
+    ensures { IsPutAt (by_heads head.bases head.parameters slots (type_trees types)
+        (solved_nodes solver.now.units (in_text_order (map typed_node nodes.old.items))))
+        (map typed_node nodes.new.items) result }
 {
-    let heads = types.items.len();
     match all_solved(alloc, solver, types, nodes) {
-        Ok(types) => Ok(numbered_nodes(alloc, head, slots, types, heads, nodes)?),
+        Ok(types) => Ok(put_numbered(alloc, head, slots, types, nodes)?),
         Err(stop) => Err(stop),
     }
 }
@@ -251,62 +258,44 @@ fn solved_type(alloc: Global, solver: &Solver, node: &NodeType) -> Result<Ty, An
     }
 }
 
-/// The nodes with their types, which come after so many types of the function, with unit parameters as variables and
-/// all variables numbered.
-fn numbered_nodes(
+/// Puts the types at the nodes, which come after some types of the function, with unit parameters as variables and all
+/// variables numbered.
+fn put_numbered(
     alloc: Global,
     head: Head,
     slots: u32,
     types: Types,
-    heads: usize,
-    nodes: &[NodeType],
-) -> Result<NodeTypes, AllocError>
+    nodes: &mut Vec<NodeType>,
+) -> Result<(), AllocError>
     requires slots { slots + head.parameters < 4294967295 }
     requires bases { head.bases + head.parameters < 2 ^ 32 }
     requires variables { All (λ k. k < slots) (variables (type_trees types)) }
-    requires count { length types.items.items ≡ heads + length nodes.now }
-    ensures { IfOk result (λ made. typed_nodes made ≡ retyped (map typed_node nodes.now)
+    requires count { length nodes.old.items ≤ length types.items.items }
+    ensures { OnOk result ((heads : ℕ) → length types.items.items ≡ heads + length nodes.old.items
+        → map typed_node nodes.new.items ≡ retyped (map typed_node nodes.old.items)
         (drop heads (renumbered (map (general head.bases head.parameters slots) (type_trees types))))) }
 {
     let types = general_types(alloc, head.bases, head.parameters, slots, types)?;
     let Numbered { types, vars: _ } = renumber(alloc, types)?;
-    let made = types_at_nodes(alloc, nodes, &types, heads);
-    drop(types);
-    made
+    put_types(nodes, types);
+    Ok(())
 }
 
-/// The nodes with the types that come after so many.
-fn types_at_nodes(
-    alloc: Global,
-    nodes: &[NodeType],
-    types: &Types,
-    heads: usize,
-) -> Result<NodeTypes, AllocError>
-    requires count { length types.now.items.items ≡ heads + length nodes.now }
-    ensures { IfOk result (λ made. typed_nodes made
-        ≡ retyped (map typed_node nodes.now) (drop heads (type_trees types.now))) }
+/// Puts the last of the types at the nodes, in place of their own.
+fn put_types(nodes: &mut Vec<NodeType>, types: Types)
+    requires { length nodes.old.items ≤ length types.items.items }
+    ensures { (heads : ℕ) → length types.items.items ≡ heads + length nodes.old.items
+        → map typed_node nodes.new.items
+        ≡ retyped (map typed_node nodes.old.items) (drop heads (type_trees types)) }
 {
-    let items = with_types(alloc, nodes, &types.items[heads..])?;
-    Ok(NodeTypes { items })
-}
-
-/// The nodes with these types in place of their own.
-fn with_types(alloc: Global, nodes: &[NodeType], types: &[Ty]) -> Result<Vec<NodeType>, AllocError>
-    requires { length types.now ≡ length nodes.now }
-    ensures { IfOk result (λ made. map typed_node made.items
-        ≡ retyped (map typed_node nodes.now) (map type_tree types.now)) }
-{
-    let mut made = Vec::new(alloc);
+    let mut types = types.items;
+    let heads = types.len() - nodes.len();
     for i in 0..nodes.len() {
-        made.push(retyped_node(alloc, &nodes[i], &types[i])?)?;
+        let ty = mem::replace(&mut types[heads + i], Ty::Bool);
+        nodes[i] = NodeType {
+            at: nodes[i].at,
+            ty,
+        };
     }
-    Ok(made)
-}
-
-/// The node with this type in place of its own.
-fn retyped_node(alloc: Global, node: &NodeType, ty: &Ty) -> Result<NodeType, AllocError>
-    ensures { IfOk result (λ made. typed_node made ≡ record { at = node.now.at; type = type_tree ty.now }) }
-{
-    let ty = copied(alloc, ty)?;
-    Ok(NodeType { at: node.at, ty })
+    drop(types);
 }
