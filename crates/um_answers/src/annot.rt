@@ -20,7 +20,7 @@ use um_front::{Answer, Checked, Text, check, function_at};
 use um_reports::{Cursor, Reply, Status, push_next_place, reply_to_range, start_of_text};
 use um_rows::NodeType;
 use um_shape::Shaped;
-use um_show::{scheme_text, type_text};
+use um_show::{Variables, push_named_type, scheme_text};
 use um_tree::{Program, Schemes};
 
 /// A program with its schemes, and its text.
@@ -212,8 +212,7 @@ fn add_node(
     text.extend_from_slice(b"  ")?;
     push_next_place(text, source.bytes, node.at, cursor)?;
     text.push(b' ')?;
-    let ty = type_text(source.alloc, &node.ty, program)?;
-    text.extend_from_slice(&ty)?;
+    push_named_type(source.alloc, text, program, Variables::Letters, &node.ty)?;
     text.push(b'\n')?;
     Ok(())
 }
