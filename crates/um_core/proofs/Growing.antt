@@ -1,7 +1,6 @@
 -- A core that grows row by row.
-use Rattle.std.proofs.Common.{◌≡◌, ◌⊎◌, inl, inr, ℕ, ◌+◌, ◌-◌, ◌<◌, ◌≤◌, Bool, false, List, [], ◌∷◌, ◌++◌, length, refl, sym, ap, ◌∙◌, subst, arith}
-use Rattle.std.specs.Prelude.{All, Err}
-use Rattle.std.proofs.lemmas.Bool.{cases_lt}
+use Rattle.std.proofs.Common.{◌≡◌, ℕ, ◌+◌, ◌-◌, ◌<◌, ◌≤◌, Bool, false, List, [], ◌∷◌, ◌++◌, length, refl, sym, ap, ◌∙◌, subst, arith}
+use Rattle.std.specs.Prelude.{All}
 use Rattle.std.proofs.lemmas.List.{append-nil, append_assoc, length-map, length-append}
 use Rattle.std.proofs.lemmas.List.Elements.{All-nil, All-cons, All-push}
 use Rattle.um_units.specs.PowerMap.{PowerMap}
@@ -10,11 +9,8 @@ use Rattle.um_rows.specs.declared.row.Row.{Row}
 use Rattle.um_rows.specs.Steps.{units_of}
 use Rattle.um_core.specs.declared.search.Next.{Next}
 use Rattle.um_core.specs.declared.search.Next.TheVariants.{Unsolvable, Row as row_of}
-use Rattle.um_core.specs.declared.smallest.CoreStop.{CoreStop}
-use Rattle.um_core.specs.declared.smallest.CoreStop.TheVariants as stop
-use Rattle.um_core.specs.Core.{IsSolvableList, IsNextRow, IsGrown, IsBegun, IsCore}
-use Rattle.um_core.specs.Search.{IsNext, PassesRange, IsNextAnswer, SearchPasses, IsCoreAnswer, has_row}
-use Rattle.um_core.proofs.BegunLists.{same_begun, shorter_begun}
+use Rattle.um_core.specs.Core.{IsNextRow, IsGrown, IsBegun, IsCore}
+use Rattle.um_core.specs.Search.{IsNext, has_row}
 
 module _ (slots : ℕ) (given rows : List PowerMap) where
   grown_more : (list further : List ℕ) (j : ℕ) → IsGrown slots given rows list further → IsNextRow slots given rows (list ++ further) j → IsGrown slots given rows list (further ++ j ∷ [])
@@ -39,42 +35,27 @@ module _ (slots bases parameters : ℕ) (rows : List Row) where
   many : length units ≡ length rows
   many = length-map rows (λ (r : Row). r.unit)
 
-  abbrev Passes : List ℕ → Type 0
-  Passes list = PassesRange slots bases parameters rows list
-
-  -- so many rows so far, none of them past the end, and no shorter list on the way passes the range
+  -- so many rows so far, none of them past the end
   pub record IsGrowing (count : ℕ) (list : List ℕ) : Type 0 where
     pub begun : IsBegun slots given units list
     pub count_is : length list ≡ count
     pub below : All (λ k. k < length rows) list
-    pub in_range : (other : List ℕ) → IsBegun slots given units other → length other < count → Passes other → ⊥
 
   pub growing_first : (k : ℕ) (list : List ℕ) → 0 < length rows → k ≡ length rows - 1 → list ≡ k ∷ [] → IsGrowing 1 list
   growing_first k list some e is = record {
     begun = record { further = []; begins = is ∙ ap (λ n. n ∷ []) (e ∙ ap (λ n. n - 1) (sym many)); grown = tt };
     count_is = ap length is;
     below = subst (All (λ k. k < length rows)) (sym is) (All-cons (λ k. k < length rows) k [] (omega (arith, some, e)) (All-nil (λ k. k < length rows)));
-    in_range = λ other b l passes. (let m = ap length b.begins in omega (arith, m, l));
   }
 
-  -- nor does a list that isn't longer, if this one doesn't
-  none_passes : (count : ℕ) (list : List ℕ) → IsGrowing count list → (Passes list → ⊥) → (other : List ℕ) → IsBegun slots given units other → length other < count + 1 → Passes other → ⊥
-  none_passes count list g clear other b l passes = by (cases_lt (length other) count) where
-    by : (length other < count) ⊎ (count ≤ length other) → ⊥
-    by (inl less) = g.in_range other b less passes
-    by (inr more) =
-        let c = g.count_is in
-        clear (subst Passes (same_begun slots given units other list b g.begun (omega (arith, more, l, c))) passes)
-
-  pub growing_more : (count : ℕ) (list : List ℕ) (next : Next) (j : ℕ) (new : List ℕ) → IsGrowing count list → IsNext slots bases parameters rows list next → (Passes list → ⊥) → next ≡ row_of j → new ≡ list ++ j ∷ [] → IsGrowing (count + 1) new
-  growing_more count list next j new g n clear e is =
+  pub growing_more : (count : ℕ) (list : List ℕ) (next : Next) (j : ℕ) (new : List ℕ) → IsGrowing count list → IsNext slots bases parameters rows list next → next ≡ row_of j → new ≡ list ++ j ∷ [] → IsGrowing (count + 1) new
+  growing_more count list next j new g n e is =
       let here = subst (IsNext slots bases parameters rows list) e n in
       let within = here.1.within in
       record {
         begun = subst (IsBegun slots given units) (sym is) (begun_more slots given units list j g.begun here.1);
         count_is = ap length is ∙ length-append list (j ∷ []) ∙ ap (λ n. n + 1) g.count_is;
         below = subst (All (λ k. k < length rows)) (sym is) (All-push (λ k. k < length rows) list j g.below (omega (arith, within, many)));
-        in_range = none_passes count list g clear;
       }
 
   -- the end
@@ -90,18 +71,3 @@ module _ (slots bases parameters : ℕ) (rows : List Row) where
     by : (next : Next) → IsNext slots bases parameters rows list next → IsCore slots given units list (has_row next)
     by Unsolvable h = unsolvable_core 17 list Unsolvable g (omega arith) h refl
     by (row_of j) h = record { begun = g.begun; few = (let c = g.count_is in omega (arith, c)); ends = (g.count_is, h.0) }
-
-  -- no list passes the range, if this one doesn't and is the last
-  pub never_passes : (count : ℕ) (list : List ℕ) → IsGrowing count list → (Passes list → ⊥) → (IsSolvableList slots given units list → count ≡ 17) → SearchPasses slots bases parameters rows → ⊥
-  never_passes count list g clear last (other, b, few, passes) = by (cases_lt (length other) (count + 1)) where
-    by : (length other < count + 1) ⊎ (count + 1 ≤ length other) → ⊥
-    by (inl l) = none_passes count list g clear other b l passes
-    by (inr l) =
-        let c = g.count_is in
-        let e = last (shorter_begun slots given units list other g.begun b (omega (arith, l, c))) in
-        omega (arith, e, few, l)
-
-  -- a stop
-  pub stopped_core : (count : ℕ) (list : List ℕ) (e : CoreStop) → IsGrowing count list → count ≤ 17 → IsNextAnswer slots bases parameters rows list (Err e) → IsCoreAnswer slots bases parameters rows (Err e)
-  stopped_core count list stop.Range g few h = (list, g.begun, (let c = g.count_is in omega (arith, c, few)), h)
-  stopped_core count list stop.NoMemory g few h = tt

@@ -1,6 +1,7 @@
 pub mod Satisfying
 pub mod CoreLaws
-pub mod BegunLists
 pub mod SearchSteps
 pub mod Growing
 pub mod FirstRows
+mod WideProducts
+mod WideSteps

@@ -11,7 +11,10 @@
 #![tactic(auto)]
 
 pub mod laws;
+mod powers;
 mod search;
 mod smallest;
+mod wide_rows;
+mod wide_step;
 
-pub use smallest::{Core, CoreStop, core_of};
+pub use smallest::{Core, core_of};

@@ -1,15 +1,15 @@
 //! The next row of a core.
-ghost use Rattle.std.specs.Prelude.{◌≡◌, ◌<◌, ◌≤◌, ◌+◌, ◌^◌, All, IfOk, false, length};
+ghost use Rattle.std.specs.Prelude.{◌≡◌, ◌<◌, ◌≤◌, ◌+◌, ◌^◌, All, IfOk, length};
 ghost use Rattle.um_units.specs.Variables.{VariablesBelow};
-ghost use Rattle.um_elim.specs.Elimination.{NoSolution, eliminate};
+ghost use Rattle.um_elim.specs.Instances.{IsRight};
 ghost use Rattle.um_elim.specs.Solution.{parameter_rows};
 ghost use Rattle.um_rows.specs.declared.row.Row.{Row};
 ghost use Rattle.um_rows.specs.Steps.{units_of};
 ghost use Rattle.um_core.specs.Laws.{EndsUnsolvable};
-ghost use Rattle.um_core.specs.Search.{IsJoined, IsNextAnswer, PassesRange, has_row};
+ghost use Rattle.um_core.specs.Search.{IsNext, has_row, outcome};
 
-use crate::smallest::CoreStop;
-use std::alloc::Global;
+use crate::wide_rows::next_wide;
+use std::alloc::{AllocError, Global};
 use um_elim::{ElimStop, Solver};
 use um_rows::Row;
 
@@ -34,7 +34,8 @@ impl Next {
     }
 }
 
-/// The first row with which those of the list are unsolvable.
+/// The first row with which those of the list are unsolvable. It is looked for with powers in range, and once more with
+/// powers of 64 bits if one is out of range.
 pub(crate) fn next_row(
     alloc: Global,
     slots: u32,
@@ -42,15 +43,38 @@ pub(crate) fn next_row(
     parameters: u32,
     rows: &[Row],
     list: &[usize],
-) -> Result<Next, CoreStop>
+) -> Result<Next, AllocError>
     requires few { slots ≤ 2000 }
     requires parameters { parameters ≤ slots }
     requires bases { bases + parameters < 2 ^ 32 }
     requires variables { All (λ (row : Row). VariablesBelow slots row.unit) rows.now }
     requires unsolvable { EndsUnsolvable slots (parameter_rows bases parameters) (units_of rows.now) }
     requires list { All (λ k. k < length rows.now) list.now }
-    ensures next { IsNextAnswer slots bases parameters rows.now list.now result }
-    ensures in_range { IfOk result (λ _. PassesRange slots bases parameters rows.now list.now → ⊥) }
+    ensures { IfOk result (IsNext slots bases parameters rows.now list.now) }
+{
+    match next_in_range(alloc, slots, bases, parameters, rows, list) {
+        Ok(next) => Ok(next),
+        Err(ElimStop::NoMemory) => Err(AllocError),
+        Err(_) => next_wide(alloc, slots, bases, parameters, rows, list),
+    }
+}
+
+/// The same by units in range.
+fn next_in_range(
+    alloc: Global,
+    slots: u32,
+    bases: u32,
+    parameters: u32,
+    rows: &[Row],
+    list: &[usize],
+) -> Result<Next, ElimStop>
+    requires few { slots ≤ 2000 }
+    requires parameters { parameters ≤ slots }
+    requires bases { bases + parameters < 2 ^ 32 }
+    requires variables { All (λ (row : Row). VariablesBelow slots row.unit) rows.now }
+    requires unsolvable { EndsUnsolvable slots (parameter_rows bases parameters) (units_of rows.now) }
+    requires list { All (λ k. k < length rows.now) list.now }
+    ensures { IfOk result (IsNext slots bases parameters rows.now list.now) }
 {
     let mut solver = Solver::with_parameters(alloc, slots, bases, parameters)?;
     for i in 0..list.len() {
@@ -67,19 +91,13 @@ pub(crate) fn next_row(
 }
 
 /// Adds the row, and says whether there is a joint solution with it.
-fn join(alloc: Global, solver: &mut Solver, row: &Row) -> Result<bool, CoreStop>
-    requires unspent { solver.old.spent ≡ false }
+fn join(alloc: Global, solver: &mut Solver, row: &Row) -> Result<bool, ElimStop>
     requires variables { VariablesBelow (length solver.old.units) row.now.unit }
-    ensures joined { IsJoined solver.old row.now.unit solver.new result }
-    ensures refused { IfOk result (λ joined. joined ≡ false
-        → eliminate solver.old.units row.now.unit ≡ NoSolution) }
-    ensures slots { length solver.new.units ≡ length solver.old.units }
+    ensures right { IfOk result (λ solved. IsRight solver.old.units row.now.unit (outcome solved solver.new.units)) }
 {
     match solver.add(alloc, &row.unit) {
         Ok(()) => Ok(true),
         Err(ElimStop::NoSolution) => Ok(false),
-        Err(ElimStop::Range) => Err(CoreStop::Range),
-        Err(ElimStop::NoMemory) => Err(CoreStop::NoMemory),
-        Err(ElimStop::Spent) => unreachable!(),
+        Err(stop) => Err(stop),
     }
 }

@@ -165,13 +165,10 @@ module _ (x : Refusal) where
     of_core_once r s (inr (past, a)) (inr (also, b)) = a ∙ sym b
 
   pub one_reason : (r s : UnitReason) → IsUnitReason x r → IsUnitReason x s → r ≡ s
-  one_reason r s (inl (core, cut_off, is, clear, a)) (inl (other, also, are, unpassed, b)) =
+  one_reason r s (core, cut_off, is, a) (other, also, are, b) =
       let same = one_core x.slots (parameter_rows (bases x) x.parameters) (units_of x.rows) other core also cut_off are is in
       let here : IsOfCore x core cut_off s = subst (λ (l : List ℕ). IsOfCore x l cut_off s) same.0 (subst (λ (c : Bool). IsOfCore x other c s) same.1 b) in
       of_core_once core cut_off is r s a here
-  one_reason r s (inl (core, cut_off, is, clear, a)) (inr (passes, b)) = absurd (clear passes)
-  one_reason r s (inr (passes, a)) (inl (core, cut_off, is, clear, b)) = absurd (clear passes)
-  one_reason r s (inr (passes, a)) (inr (also, b)) = a ∙ sym b
 
 -- ---- of function i of a program
 

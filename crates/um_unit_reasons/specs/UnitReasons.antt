@@ -19,7 +19,6 @@ use Rattle.um_rows.specs.FirstUnsolvable.{rows_up_to}
 use Rattle.um_rows.specs.Judgement.{Judgement, has_no_typing, not_general}
 use Rattle.um_rows.specs.Generalised.{generalised_unit}
 use Rattle.um_core.specs.Core.{IsCore}
-use Rattle.um_core.specs.Search.{SearchPasses}
 use Rattle.um_agree.specs.declared.rule.Rule.TheVariants as asks
 use Rattle.um_agree.specs.Agreements.{Agreement}
 use Rattle.um_agree.specs.FunctionAgreements.{function_agreements}
@@ -142,13 +141,12 @@ module _ (x : Refusal) where
   IsOfCore core cut_off r =
       (IsTrue (fit core) × (r ≡ core_reason core cut_off)) ⊎ (IsPastIn x.agreed core × (r ≡ out_of_range))
 
-  -- what is told of the function's core if no power is out of range while the core is searched for
+  -- what is told of the function's core
   abbrev pub IsUnitReason : UnitReason → Type 0
   IsUnitReason r =
-      ((core : List ℕ) × (cut_off : Bool)
+      (core : List ℕ) × (cut_off : Bool)
       × IsCore x.slots (parameter_rows bases x.parameters) (units_of x.rows) core cut_off
-      × (SearchPasses x.slots bases x.parameters x.rows → ⊥) × IsOfCore core cut_off r)
-      ⊎ (SearchPasses x.slots bases x.parameters x.rows × (r ≡ out_of_range))
+      × IsOfCore core cut_off r
 
 -- ---- function i, of which row k is the first unsolvable one, given the schemes of the functions before it
 

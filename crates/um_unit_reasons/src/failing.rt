@@ -16,7 +16,7 @@ use crate::reason::UnitReason;
 use crate::telling::told_types;
 use std::alloc::{AllocError, Global};
 use um_agree::Agreements;
-use um_core::{Core, CoreStop, core_of};
+use um_core::{Core, core_of};
 use um_measures::NameTable;
 use um_reasons::{Question, Reason, reason_of};
 use um_rows::Row;
@@ -62,21 +62,16 @@ pub(crate) fn core_reason(alloc: Global, x: &Failing) -> Result<UnitReason, Allo
         IfOk result (λ r. IsUnitReason (refusal_of x.now agreed) (reason_tree r)) }
 {
     let rows = up_to(&x.found.rows.list.items, x.row);
-    match core_of(
+    let core = core_of(
         alloc,
         x.found.rows.slots,
         base_count(x.program),
         x.parameters,
         rows,
-    ) {
-        Ok(core) => {
-            let told = by_core(alloc, x, &core);
-            drop(core);
-            told
-        }
-        Err(CoreStop::Range) => Ok(UnitReason::OutOfRange),
-        Err(CoreStop::NoMemory) => Err(AllocError),
-    }
+    )?;
+    let told = by_core(alloc, x, &core);
+    drop(core);
+    told
 }
 
 /// What is told of this core.
