@@ -1,6 +1,7 @@
 -- A program in tokens whose numbers before units are replaced by those of the rescaled program: it is read again, and
 -- stands for the rescaled program.
-use Rattle.std.proofs.Common.{◌≡◌, ℕ, Bool, true, false, cond, List, [], ◌∷◌, ◌++◌, length, map, Option, Some, None, refl, sym, ap, subst, ◌∙◌, append_assoc, Ok}
+use Rattle.std.proofs.Common.{◌≡◌, ℕ, ◌+◌, max, Bool, true, false, cond, List, [], ◌∷◌, ◌++◌, length, map, Option, Some, None, refl, sym, ap, subst, ◌∙◌, append_assoc, Ok}
+use Rattle.std.specs.Prelude.{nat_lt}
 use Rattle.std.specs.List.{flat_map}
 use Rattle.std.proofs.lemmas.List.{append-nil, map-append}
 use Rattle.um_frac.specs.declared.number.Frac.{Frac}
@@ -16,6 +17,10 @@ use Rattle.um_measures.specs.Variables.{type_variables, result_variables, first_
 use Rattle.um_names.proofs.FormedTypes.{then_found}
 use Rattle.um_names.specs.ExprNames.{resolved_expr}
 use Rattle.um_names.specs.Resolution.{resolved_parameters, resolved_record_decl, resolved_params, resolved_result, callables, scope_of, resolved_function, with_base, with_short, with_record, with_function, resolved_decl, resolved_decls}
+use Rattle.um_decls.specs.DeclHeights.{params_height, result_height}
+use Rattle.um_types.specs.declared.parse.LimitKind.TheVariants as limit
+use Rattle.um_parse.specs.ProgramHeights.{decl_height, program_height}
+use Rattle.um_parse.specs.ProgramLimits.{most_functions, most_parameters, most_unit_parameters, most_nodes, functions_in, passed_limit, WithinLimits}
 use Rattle.um_parse.specs.DeclGrammar.{Attribute, VarSpells, MoreVars, VarsSpell, FieldDeclSpells, MoreFieldDecls, FieldDeclsSpell, ParamSpells, ParamsSpell, ResultSpells, RecSpells, FunctionSpells, DeclSpells, DeclsSpell, DeclFits, DeclsFit}
 use Rattle.um_scale.specs.Sizes.{AreSizes}
 use Rattle.um_scale.specs.RescaledLiterals.{rescaled, rescaled_function}
@@ -23,6 +28,7 @@ use Rattle.um_scale.specs.RescaledText.{literals, literals_of}
 use Rattle.um_rescaled.proofs.Picks.{Segment, joint, made, listed, before, empty}
 use Rattle.um_rescaled.proofs.UnitsReplaced.{unit_replaced, type_replaced}
 use Rattle.um_rescaled.proofs.TokensReplaced.{Stays, first, first_at, bound_replaced}
+use Rattle.um_rescaled.proofs.ExprSizes.{Size}
 use Rattle.um_rescaled.proofs.OtherFunctions.{with_functions, rescaled_known, record_same, params_same, result_same, names_same, callables_same}
 use Rattle.um_rescaled.proofs.ExprsReplaced.{one_found, expr_again}
 
@@ -121,6 +127,8 @@ module _ (cs : List Frac) (above : AreSizes cs) (numbers : ℕ → Option Frac) 
     pub again : FunctionSyntax
     pub segment : Segment numbers (literals (rescaled cs g.body)) tokens rest (λ x y. FunctionSpells again x y)
     pub fits : DeclFits (function_syntax again)
+    pub height : decl_height (function_syntax again) ≡ decl_height (function_syntax f)
+    pub limit : (before : ℕ) → passed_limit before (function_syntax again) ≡ passed_limit before (function_syntax f)
     pub resolved : resolved_function (rescaled_known cs known) again ≡ Ok (rescaled_function cs g)
 
   function_again : (f : FunctionSyntax) (known : Known) (g : FunctionTree) (tokens rest : List Token) → FunctionSpells f tokens rest → DeclFits (function_syntax f) → resolved_function known f ≡ Ok g → FunctionAgain f known g tokens rest
@@ -148,6 +156,10 @@ module _ (cs : List Frac) (above : AreSizes cs) (numbers : ℕ → Option Frac) 
             (before numbers (params_stay numbers f.params s.3 s.4 s.11) (before numbers (result_stays numbers f.result s.4 s.5 s.12) (before numbers (first numbers _ s.5 s.6 s.13) b.segment)))))))
             (λ x y g. let h = g.second in let i = h.second in let j = i.second in let k = j.second in let l = k.second in let m = l.second in (g.mid, h.mid, i.mid, j.mid, k.mid, l.mid, m.mid, g.first, h.first, i.first, j.first, k.first, l.first, m.first, m.second));
         fits = (fits.0, fits.1, b.fits);
+        height = ap (λ (z : Size). max (params_height f.params) (max (result_height f.result) (max z.height z.notes))) b.sized;
+        limit = λ before. ap (λ (z : Size).
+            cond (nat_lt most_functions (before + 1)) (Some limit.Functions) (cond (nat_lt most_parameters (length f.params)) (Some limit.Parameters)
+            (cond (nat_lt most_unit_parameters (length f.units)) (Some limit.UnitParameters) (cond (nat_lt most_nodes z.nodes) (Some limit.Nodes) None)))) b.sized;
         resolved =
             (λ i. and_then (named i) (λ _. by_units other h)) ∙ (λ i. and_then (u.1 i) (λ units. by_params other h units (named_variables units h))) ∙ ap (by_params other h units) occurring
             ∙ (λ i. and_then ((params_same known others variables [] f.params ∙ v.1) i) (λ params. by_result other h units variables params))
@@ -163,6 +175,9 @@ module _ (cs : List Frac) (above : AreSizes cs) (numbers : ℕ → Option Frac) 
     pub functions : end.program.functions ≡ known.program.functions ++ added
     pub segment : Segment numbers (literals_of (map (rescaled_function cs) added)) tokens rest (λ x y. DeclSpells again x y)
     pub fits : DeclFits again
+    pub height : decl_height again ≡ decl_height d
+    pub limit : (before : ℕ) → passed_limit before again ≡ passed_limit before d
+    pub count : functions_in again ≡ functions_in d
     pub resolved : resolved_decl (rescaled_known cs known) again ≡ Ok (rescaled_known cs end)
 
   decl_again : (d : DeclSyntax) (known end : Known) (tokens rest : List Token) → DeclSpells d tokens rest → DeclFits d → resolved_decl known d ≡ Ok end → DeclAgain d known end tokens rest
@@ -174,6 +189,9 @@ module _ (cs : List Frac) (above : AreSizes cs) (numbers : ℕ → Option Frac) 
         functions = sym (append-nil known.program.functions);
         segment = made numbers (before numbers (attribute_stays numbers tokens s.0 s.2) (before numbers (first numbers _ s.0 s.1 s.3) (first_at numbers _ at s.1 rest s.4))) (λ x y g. (g.mid, g.second.mid, g.first, g.second.first, g.second.second));
         fits = tt;
+        height = refl;
+        limit = λ before. refl;
+        count = refl;
         resolved = λ i. and_then (w.1 i) (λ _. Ok (with_base (rescaled_known cs known) x));
       })
   decl_again (short_syntax at x u) known end tokens rest s fits is =
@@ -187,6 +205,9 @@ module _ (cs : List Frac) (above : AreSizes cs) (numbers : ℕ → Option Frac) 
             (before numbers (attribute_stays numbers tokens s.0 s.4) (before numbers (first numbers _ s.0 s.1 s.5) (before numbers (first_at numbers _ at s.1 s.2 s.6) (before numbers (first numbers _ s.2 s.3 s.7) (unit_replaced numbers u s.3 rest s.8)))))
             (λ x y g. (g.mid, g.second.mid, g.second.second.mid, g.second.second.second.mid, g.first, g.second.first, g.second.second.first, g.second.second.second.first, g.second.second.second.second));
         fits = fits;
+        height = refl;
+        limit = λ before. refl;
+        count = refl;
         resolved = λ i. and_then (w.1 i) (λ _. and_then (v.1 i) (λ v. Ok (with_short (rescaled_known cs known) x v)));
       })
   decl_again (record_decl_syntax at x vs fs) known end tokens rest s fits is =
@@ -200,6 +221,9 @@ module _ (cs : List Frac) (above : AreSizes cs) (numbers : ℕ → Option Frac) 
             (before numbers (first numbers _ s.3 s.4 s.10) (before numbers (fields_stay numbers fs s.4 s.5 s.11) (first numbers _ s.5 rest s.12)))))))
             (λ x y g. let h = g.second in let i = h.second in let j = i.second in let k = j.second in let l = k.second in (g.mid, h.mid, i.mid, j.mid, k.mid, l.mid, g.first, h.first, i.first, j.first, k.first, l.first, l.second));
         fits = fits;
+        height = refl;
+        limit = λ before. refl;
+        count = refl;
         resolved = λ i. and_then ((record_same known (map (rescaled_function cs) known.program.functions) at x vs fs ∙ w.1) i) (λ d. Ok (with_record (rescaled_known cs known) d));
       })
   decl_again (function_syntax f) known end tokens rest s fits is =
@@ -212,6 +236,9 @@ module _ (cs : List Frac) (above : AreSizes cs) (numbers : ℕ → Option Frac) 
         functions = refl;
         segment = listed numbers (sym (append-nil (literals (rescaled cs (w.0).body)))) b.segment;
         fits = b.fits;
+        height = b.height;
+        limit = b.limit;
+        count = refl;
         resolved =
             (λ i. and_then (b.resolved i) (λ g. Ok (with_function (rescaled_known cs known) g)))
             ∙ ap (λ fs. Ok (with_functions known fs)) (sym (map-append (rescaled_function cs) functions (w.0 ∷ [])));
@@ -225,6 +252,8 @@ module _ (cs : List Frac) (above : AreSizes cs) (numbers : ℕ → Option Frac) 
     pub functions : end.program.functions ≡ known.program.functions ++ added
     pub segment : Segment numbers (literals_of (map (rescaled_function cs) added)) tokens rest (λ x y. DeclsSpell again x y)
     pub fits : DeclsFit again
+    pub height : program_height again ≡ program_height ds
+    pub within : (before : ℕ) → WithinLimits before ds → WithinLimits before again
     pub resolved : resolved_decls (rescaled_known cs known) again ≡ Ok (rescaled_known cs end)
 
   literals_append : (fs gs : List FunctionTree) → literals_of (map (rescaled_function cs) fs) ++ literals_of (map (rescaled_function cs) gs) ≡ literals_of (map (rescaled_function cs) (fs ++ gs))
@@ -236,7 +265,7 @@ module _ (cs : List Frac) (above : AreSizes cs) (numbers : ℕ → Option Frac) 
   pub decls_again : (ds : List DeclSyntax) (known end : Known) (tokens rest : List Token) → DeclsSpell ds tokens rest → DeclsFit ds → resolved_decls known ds ≡ Ok end → DeclsAgain ds known end tokens rest
   decls_again [] known end tokens rest s fits is =
       let same : known ≡ end = cc is in
-      subst (λ k. DeclsAgain [] known k tokens rest) same (record { again = []; added = []; functions = sym (append-nil known.program.functions); segment = empty numbers tokens rest s; fits = tt; resolved = refl })
+      subst (λ k. DeclsAgain [] known k tokens rest) same (record { again = []; added = []; functions = sym (append-nil known.program.functions); segment = empty numbers tokens rest s; fits = tt; height = refl; within = λ before w. tt; resolved = refl })
   decls_again (d ∷ ds) known end tokens rest s fits is =
       let w = then_found (resolved_decl known d) (λ after. resolved_decls after ds) end is in
       let p = decl_again d known w.0 tokens s.0 s.1 fits.0 w.1 in
@@ -247,5 +276,7 @@ module _ (cs : List Frac) (above : AreSizes cs) (numbers : ℕ → Option Frac) 
         functions = q.functions ∙ ap (λ fs. fs ++ q.added) p.functions ∙ append_assoc known.program.functions p.added q.added;
         segment = listed numbers (literals_append p.added q.added) (made numbers (joint numbers p.segment q.segment) (λ x y g. (g.mid, g.first, g.second)));
         fits = (p.fits, q.fits);
+        height = λ i. max (p.height i) (q.height i);
+        within = λ before w. (p.limit before ∙ w.0, subst (λ n. WithinLimits n q.again) (ap (λ n. before + n) (sym p.count)) (q.within (before + functions_in d) w.1));
         resolved = (λ i. and_then (p.resolved i) (λ after. resolved_decls after q.again)) ∙ q.resolved;
       }

@@ -30,6 +30,7 @@ use Rattle.um_scale.specs.RescaledText.{opens_unit, new_number, literals, all_li
 use Rattle.um_rescaled.proofs.Picks.{Segment, joint, made, listed, before, ended, empty, literal, same_start}
 use Rattle.um_rescaled.proofs.TokensReplaced.{number_kind, opens_after, first, first_at, same_number, new_kind, signed, bound_replaced, written_replaced, power_replaced, empty_arm_replaced, full_arm_replaced, nil_replaced}
 use Rattle.um_rescaled.proofs.RescaledNumbers.{natural_stays, stays_without_unit}
+use Rattle.um_rescaled.proofs.ExprSizes.{size, list_size, fields_size, beside, one_more, over_two, over_three}
 use Rattle.um_rescaled.proofs.OtherFunctions.{with_functions, type_same}
 
 -- nothing is refused, and this is found
@@ -56,6 +57,7 @@ module _ (cs : List Frac) (above : AreSizes cs) (numbers : ℕ → Option Frac) 
     pub fits : Fits again
     pub ranked : rank again ≡ rank e
     pub occurring : expr_variables again ≡ expr_variables e
+    pub sized : size again ≡ size e
     pub resolved : resolved_expr (with_functions known functions) variables callables scope again ≡ Ok y
 
   record AllAgain (es : ExprSyntaxes) (scope : Scope) (ys : ExprTrees) (tokens rest : List Token) : Type 0 where
@@ -65,6 +67,7 @@ module _ (cs : List Frac) (above : AreSizes cs) (numbers : ℕ → Option Frac) 
     pub some : IsAny es → IsAny again
     pub long : length_of again ≡ length_of es
     pub occurring : exprs_variables again ≡ exprs_variables es
+    pub sized : list_size again ≡ list_size es
     pub resolved : resolved_exprs (with_functions known functions) variables callables scope again ≡ Ok ys
 
   record ItemsAgain (es : ExprSyntaxes) (scope : Scope) (ys : ExprTrees) (tokens rest : List Token) : Type 0 where
@@ -72,6 +75,7 @@ module _ (cs : List Frac) (above : AreSizes cs) (numbers : ℕ → Option Frac) 
     pub segment : Segment numbers (all_literals ys) tokens rest (λ a b. MoreItems again a b)
     pub fits : AllFit again
     pub occurring : exprs_variables again ≡ exprs_variables es
+    pub sized : list_size again ≡ list_size es
     pub resolved : resolved_exprs (with_functions known functions) variables callables scope again ≡ Ok ys
 
   record FieldsAgain (fs : FieldSyntaxes) (scope : Scope) (ys : ExprTrees) (tokens rest : List Token) : Type 0 where
@@ -81,6 +85,7 @@ module _ (cs : List Frac) (above : AreSizes cs) (numbers : ℕ → Option Frac) 
     pub names : field_text_names again ≡ field_text_names fs
     pub fields : (records : List RecordTree) → known_fields records again ≡ known_fields records fs
     pub occurring : fields_variables again ≡ fields_variables fs
+    pub sized : fields_size again ≡ fields_size fs
     pub resolved : resolved_parts (with_functions known functions) variables callables scope again ≡ Ok ys
 
   to : (e : ExprSyntax) (scope : Scope) (a x : ExprTree) (tokens rest : List Token) → a ≡ x → Again e scope (rescaled cs a) tokens rest → Again e scope (rescaled cs x) tokens rest
@@ -103,6 +108,7 @@ module _ (cs : List Frac) (above : AreSizes cs) (numbers : ℕ → Option Frac) 
         fits = tt;
         ranked = refl;
         occurring = refl;
+        sized = refl;
         resolved = is ∙ ap (λ z. Ok z) (sym stays.0);
       }
 
@@ -121,6 +127,7 @@ module _ (cs : List Frac) (above : AreSizes cs) (numbers : ℕ → Option Frac) 
         fits = tt;
         ranked = refl;
         occurring = refl;
+        sized = refl;
         resolved = refl;
       }
 
@@ -132,6 +139,7 @@ module _ (cs : List Frac) (above : AreSizes cs) (numbers : ℕ → Option Frac) 
     fits = tt;
     ranked = refl;
     occurring = refl;
+    sized = refl;
     resolved = λ i. and_then (is i) (λ unit. Ok (number at c unit));
   }
 
@@ -152,6 +160,7 @@ module _ (cs : List Frac) (above : AreSizes cs) (numbers : ℕ → Option Frac) 
         fits = fits;
         ranked = refl;
         occurring = refl;
+        sized = refl;
         resolved = λ i. and_then (is i) (λ v. Ok (number at d (note.Written v)));
       }
 
@@ -173,7 +182,7 @@ module _ (cs : List Frac) (above : AreSizes cs) (numbers : ℕ → Option Frac) 
   mutual
     pub expr_again : (e : ExprSyntax) (scope : Scope) (x : ExprTree) (tokens rest : List Token) → Spells e tokens rest → Fits e → resolved_expr known variables callables scope e ≡ Ok x → Again e scope (rescaled cs x) tokens rest
     expr_again (truth_syntax at b) scope x tokens rest s f is =
-        to (truth_syntax at b) scope (truth at b) x tokens rest (cc is) (record { again = truth_syntax at b; segment = first_at numbers _ at tokens rest s; fits = tt; ranked = refl; occurring = refl; resolved = refl })
+        to (truth_syntax at b) scope (truth at b) x tokens rest (cc is) (record { again = truth_syntax at b; segment = first_at numbers _ at tokens rest s; fits = tt; ranked = refl; occurring = refl; sized = refl; resolved = refl })
     expr_again (number_syntax at c n) scope x tokens rest s f is = literal_again at c n scope x tokens rest s f is
     expr_again (name_syntax at m) scope x tokens rest s f is = name_again at m scope x tokens rest s is
     expr_again (call_syntax at m es) scope x tokens rest s f is =
@@ -187,6 +196,7 @@ module _ (cs : List Frac) (above : AreSizes cs) (numbers : ℕ → Option Frac) 
           fits = (q.some f.0, q.fits);
           ranked = refl;
           occurring = q.occurring;
+          sized = ap one_more q.sized;
           resolved = λ i. and_then (same i) (λ j. and_then (q.resolved i) (λ bs. Ok (call at j bs)));
         })
     expr_again (negate_syntax at a) scope x tokens rest s f is =
@@ -198,6 +208,7 @@ module _ (cs : List Frac) (above : AreSizes cs) (numbers : ℕ → Option Frac) 
           fits = (subst (λ n. n ≤ 2) (sym p.ranked) f.0, p.fits);
           ranked = refl;
           occurring = p.occurring;
+          sized = ap one_more p.sized;
           resolved = λ i. and_then (p.resolved i) (λ e. Ok (negate at e));
         })
     expr_again (not_syntax at a) scope x tokens rest s f is =
@@ -209,6 +220,7 @@ module _ (cs : List Frac) (above : AreSizes cs) (numbers : ℕ → Option Frac) 
           fits = (p.ranked ∙ f.0, p.fits);
           ranked = refl;
           occurring = p.occurring;
+          sized = ap one_more p.sized;
           resolved = λ i. and_then (p.resolved i) (λ e. Ok (not_expr at e));
         })
     expr_again (pown_syntax at a k) scope x tokens rest s f is =
@@ -220,6 +232,7 @@ module _ (cs : List Frac) (above : AreSizes cs) (numbers : ℕ → Option Frac) 
           fits = (p.ranked ∙ f.0, p.fits);
           ranked = refl;
           occurring = p.occurring;
+          sized = ap one_more p.sized;
           resolved = λ i. and_then (p.resolved i) (λ e. Ok (pown at e k));
         })
     expr_again (arith_syntax at op a b) scope x tokens rest s f is =
@@ -232,6 +245,7 @@ module _ (cs : List Frac) (above : AreSizes cs) (numbers : ℕ → Option Frac) 
           fits = (subst (λ n. n ≤ arith_rank op) (sym p.ranked) f.0, subst (λ n. n < arith_rank op) (sym q.ranked) f.1, p.fits, q.fits);
           ranked = refl;
           occurring = λ i. p.occurring i ++ q.occurring i;
+          sized = λ i. over_two (p.sized i) (q.sized i);
           resolved = λ i. and_then (p.resolved i) (λ e. and_then (q.resolved i) (λ f. Ok (arith at op e f)));
         })
     expr_again (compare_syntax at sg a b) scope x tokens rest s f is =
@@ -244,6 +258,7 @@ module _ (cs : List Frac) (above : AreSizes cs) (numbers : ℕ → Option Frac) 
           fits = (subst (λ n. n ≤ 5) (sym p.ranked) f.0, subst (λ n. n < 6) (sym q.ranked) f.1, p.fits, q.fits);
           ranked = refl;
           occurring = λ i. p.occurring i ++ q.occurring i;
+          sized = λ i. over_two (p.sized i) (q.sized i);
           resolved = λ i. and_then (p.resolved i) (λ e. and_then (q.resolved i) (λ f. Ok (compare at sg e f)));
         })
     expr_again (and_syntax at a b) scope x tokens rest s f is =
@@ -256,6 +271,7 @@ module _ (cs : List Frac) (above : AreSizes cs) (numbers : ℕ → Option Frac) 
           fits = (subst (λ n. n ≤ 7) (sym p.ranked) f.0, subst (λ n. n < 7) (sym q.ranked) f.1, p.fits, q.fits);
           ranked = refl;
           occurring = λ i. p.occurring i ++ q.occurring i;
+          sized = λ i. over_two (p.sized i) (q.sized i);
           resolved = λ i. and_then (p.resolved i) (λ e. and_then (q.resolved i) (λ f. Ok (both at e f)));
         })
     expr_again (or_syntax at a b) scope x tokens rest s f is =
@@ -268,6 +284,7 @@ module _ (cs : List Frac) (above : AreSizes cs) (numbers : ℕ → Option Frac) 
           fits = (subst (λ n. n ≤ 8) (sym p.ranked) f.0, subst (λ n. n < 8) (sym q.ranked) f.1, p.fits, q.fits);
           ranked = refl;
           occurring = λ i. p.occurring i ++ q.occurring i;
+          sized = λ i. over_two (p.sized i) (q.sized i);
           resolved = λ i. and_then (p.resolved i) (λ e. and_then (q.resolved i) (λ f. Ok (either at e f)));
         })
     expr_again (cons_syntax at a b) scope x tokens rest s f is =
@@ -280,6 +297,7 @@ module _ (cs : List Frac) (above : AreSizes cs) (numbers : ℕ → Option Frac) 
           fits = (subst (λ n. n ≤ 4) (sym p.ranked) f.0, subst (λ n. n < 6) (sym q.ranked) f.1, p.fits, q.fits);
           ranked = refl;
           occurring = λ i. p.occurring i ++ q.occurring i;
+          sized = λ i. over_two (p.sized i) (q.sized i);
           resolved = λ i. and_then (p.resolved i) (λ e. and_then (q.resolved i) (λ f. Ok (cons at e f)));
         })
     expr_again (if_syntax at c a b) scope x tokens rest s f is =
@@ -296,6 +314,7 @@ module _ (cs : List Frac) (above : AreSizes cs) (numbers : ℕ → Option Frac) 
           fits = (o.fits, p.fits, q.fits);
           ranked = refl;
           occurring = λ i. o.occurring i ++ p.occurring i ++ q.occurring i;
+          sized = λ i. over_three (o.sized i) (p.sized i) (q.sized i);
           resolved = λ i. and_then (o.resolved i) (λ d. and_then (p.resolved i) (λ e. and_then (q.resolved i) (λ f. Ok (if at d e f))));
         })
     expr_again (let_syntax at m a b) scope x tokens rest s f is =
@@ -311,6 +330,7 @@ module _ (cs : List Frac) (above : AreSizes cs) (numbers : ℕ → Option Frac) 
           fits = (p.fits, q.fits);
           ranked = refl;
           occurring = λ i. p.occurring i ++ q.occurring i;
+          sized = λ i. over_two (p.sized i) (q.sized i);
           resolved = λ i. and_then (p.resolved i) (λ e. and_then (q.resolved i) (λ f. Ok (bind at e f)));
         })
     expr_again (match_syntax at l a m n b) scope x tokens rest s f is =
@@ -332,6 +352,7 @@ module _ (cs : List Frac) (above : AreSizes cs) (numbers : ℕ → Option Frac) 
           fits = (o.fits, p.fits, q.fits);
           ranked = refl;
           occurring = λ i. o.occurring i ++ p.occurring i ++ q.occurring i;
+          sized = λ i. over_three (o.sized i) (p.sized i) (q.sized i);
           resolved = λ i. and_then (o.resolved i) (λ d. and_then (p.resolved i) (λ c. and_then (u.1 i) (λ _. and_then (q.resolved i) (λ f. Ok (split at d c f)))));
         })
     expr_again (nil_syntax at t) scope x tokens rest s f is =
@@ -342,6 +363,7 @@ module _ (cs : List Frac) (above : AreSizes cs) (numbers : ℕ → Option Frac) 
           fits = f;
           ranked = refl;
           occurring = refl;
+          sized = refl;
           resolved = λ i. and_then ((type_same known functions variables true t ∙ w.1) i) (λ n. Ok (nil at n));
         })
     expr_again (list_syntax at no_exprs) scope x tokens rest s f is = absurd s.3
@@ -358,6 +380,7 @@ module _ (cs : List Frac) (above : AreSizes cs) (numbers : ℕ → Option Frac) 
           fits = (p.fits, q.fits);
           ranked = refl;
           occurring = λ i. p.occurring i ++ q.occurring i;
+          sized = λ i. one_more (beside (p.sized i) (q.sized i));
           resolved = λ i. and_then (and_then (p.resolved i) (λ a. and_then (q.resolved i) (λ bs. Ok (more a bs)))) (λ bs. Ok (list_expr at bs));
         })
     expr_again (fields_syntax at no_fields) scope x tokens rest s f is = absurd s.3
@@ -380,6 +403,7 @@ module _ (cs : List Frac) (above : AreSizes cs) (numbers : ℕ → Option Frac) 
           fits = (p.fits, q.fits);
           ranked = refl;
           occurring = λ i. p.occurring i ++ q.occurring i;
+          sized = λ i. one_more (beside (p.sized i) (q.sized i));
           resolved = λ i. and_then ((names ∙ k.1) i) (λ r. and_then (and_then (p.resolved i) (λ a. and_then (q.resolved i) (λ bs. Ok (more a bs)))) (λ bs. Ok (record_expr at r bs)));
         })
     expr_again (field_syntax at place m a) scope x tokens rest s f is =
@@ -393,6 +417,7 @@ module _ (cs : List Frac) (above : AreSizes cs) (numbers : ℕ → Option Frac) 
           fits = (p.ranked ∙ f.0, p.fits);
           ranked = refl;
           occurring = p.occurring;
+          sized = ap one_more p.sized;
           resolved = λ i. and_then (p.resolved i) (λ e. and_then (v.1 i) (λ f. Ok (field at f.record_number f.field_number e)));
         })
     expr_again (bracket_expr_syntax at a) scope x tokens rest s f is =
@@ -403,13 +428,14 @@ module _ (cs : List Frac) (above : AreSizes cs) (numbers : ℕ → Option Frac) 
           fits = p.fits;
           ranked = refl;
           occurring = p.occurring;
+          sized = ap one_more p.sized;
           resolved = p.resolved;
         }
 
     arguments_again : (es : ExprSyntaxes) (scope : Scope) (xs : ExprTrees) (tokens rest : List Token) → AllSpell es tokens rest → AreAtoms es → resolved_exprs known variables callables scope es ≡ Ok xs → AllAgain es scope (all_rescaled cs xs) tokens rest
     arguments_again no_exprs scope xs tokens rest s f is =
         let same : none ≡ xs = cc is in
-        subst (λ z. AllAgain no_exprs scope (all_rescaled cs z) tokens rest) same (record { again = no_exprs; segment = empty numbers tokens rest s; fits = tt; some = λ h. h; long = refl; occurring = refl; resolved = refl })
+        subst (λ z. AllAgain no_exprs scope (all_rescaled cs z) tokens rest) same (record { again = no_exprs; segment = empty numbers tokens rest s; fits = tt; some = λ h. h; long = refl; occurring = refl; sized = refl; resolved = refl })
     arguments_again (more_exprs e es) scope xs tokens rest s f is =
         let w = then_found (resolved_expr known variables callables scope e) (λ a. and_then (resolved_exprs known variables callables scope es) (λ bs. Ok (more a bs))) xs is in
         let v = one_found (resolved_exprs known variables callables scope es) (more w.0) xs w.2 in
@@ -422,13 +448,14 @@ module _ (cs : List Frac) (above : AreSizes cs) (numbers : ℕ → Option Frac) 
           some = λ h. tt;
           long = ap suc q.long;
           occurring = λ i. p.occurring i ++ q.occurring i;
+          sized = λ i. beside (p.sized i) (q.sized i);
           resolved = λ i. and_then (p.resolved i) (λ a. and_then (q.resolved i) (λ bs. Ok (more a bs)));
         })
 
     items_again : (es : ExprSyntaxes) (scope : Scope) (xs : ExprTrees) (tokens rest : List Token) → MoreItems es tokens rest → AllFit es → resolved_exprs known variables callables scope es ≡ Ok xs → ItemsAgain es scope (all_rescaled cs xs) tokens rest
     items_again no_exprs scope xs tokens rest s f is =
         let same : none ≡ xs = cc is in
-        subst (λ z. ItemsAgain no_exprs scope (all_rescaled cs z) tokens rest) same (record { again = no_exprs; segment = empty numbers tokens rest s; fits = tt; occurring = refl; resolved = refl })
+        subst (λ z. ItemsAgain no_exprs scope (all_rescaled cs z) tokens rest) same (record { again = no_exprs; segment = empty numbers tokens rest s; fits = tt; occurring = refl; sized = refl; resolved = refl })
     items_again (more_exprs e es) scope xs tokens rest s f is =
         let w = then_found (resolved_expr known variables callables scope e) (λ a. and_then (resolved_exprs known variables callables scope es) (λ bs. Ok (more a bs))) xs is in
         let v = one_found (resolved_exprs known variables callables scope es) (more w.0) xs w.2 in
@@ -439,13 +466,14 @@ module _ (cs : List Frac) (above : AreSizes cs) (numbers : ℕ → Option Frac) 
           segment = made numbers (before numbers (first numbers _ tokens s.0 s.2) (joint numbers p.segment q.segment)) (λ a b g. (g.mid, g.second.mid, g.first, g.second.first, g.second.second));
           fits = (p.fits, q.fits);
           occurring = λ i. p.occurring i ++ q.occurring i;
+          sized = λ i. beside (p.sized i) (q.sized i);
           resolved = λ i. and_then (p.resolved i) (λ a. and_then (q.resolved i) (λ bs. Ok (more a bs)));
         })
 
     fields_again : (fs : FieldSyntaxes) (scope : Scope) (xs : ExprTrees) (tokens rest : List Token) → MoreFields fs tokens rest → FieldsFit fs → resolved_parts known variables callables scope fs ≡ Ok xs → FieldsAgain fs scope (all_rescaled cs xs) tokens rest
     fields_again no_fields scope xs tokens rest s f is =
         let same : none ≡ xs = cc is in
-        subst (λ z. FieldsAgain no_fields scope (all_rescaled cs z) tokens rest) same (record { again = no_fields; segment = empty numbers tokens rest s; fits = tt; names = refl; fields = λ records. refl; occurring = refl; resolved = refl })
+        subst (λ z. FieldsAgain no_fields scope (all_rescaled cs z) tokens rest) same (record { again = no_fields; segment = empty numbers tokens rest s; fits = tt; names = refl; fields = λ records. refl; occurring = refl; sized = refl; resolved = refl })
     fields_again (more_fields place m e fs) scope xs tokens rest s f is =
         let w = then_found (resolved_expr known variables callables scope e) (λ a. and_then (resolved_parts known variables callables scope fs) (λ bs. Ok (more a bs))) xs is in
         let v = one_found (resolved_parts known variables callables scope fs) (more w.0) xs w.2 in
@@ -459,5 +487,6 @@ module _ (cs : List Frac) (above : AreSizes cs) (numbers : ℕ → Option Frac) 
           names = ap (λ ns. m ∷ ns) q.names;
           fields = λ records. ap (known_or (field_of records m) place) (q.fields records);
           occurring = λ i. p.occurring i ++ q.occurring i;
+          sized = λ i. beside (p.sized i) (q.sized i);
           resolved = λ i. and_then (p.resolved i) (λ a. and_then (q.resolved i) (λ bs. Ok (more a bs)));
         })

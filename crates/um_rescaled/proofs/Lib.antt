@@ -2,6 +2,7 @@ mod Picks
 mod UnitsReplaced
 mod TokensReplaced
 mod RescaledNumbers
+pub mod ExprSizes
 mod OtherFunctions
 mod ExprsReplaced
 mod DeclsReplaced

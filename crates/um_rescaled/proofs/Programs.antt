@@ -10,6 +10,8 @@ use Rattle.um_tree.specs.ProgramTree.{ProgramTree}
 use Rattle.um_measures.specs.Faults.{and_then}
 use Rattle.um_measures.specs.Known.{Known, nothing}
 use Rattle.um_names.specs.Resolution.{resolution, resolved_program, resolved_abbreviations}
+use Rattle.um_parse.specs.ProgramHeights.{program_height}
+use Rattle.um_parse.specs.ProgramLimits.{WithinLimits}
 use Rattle.um_parse.specs.DeclGrammar.{DeclsSpell, IsProgram}
 use Rattle.um_text_details.proofs.RisingTokens.{Rise, tokens_rise}
 use Rattle.um_show.proofs.GoodTokens.{IsNatural, AllGood, tokens_good}
@@ -56,7 +58,7 @@ module _ (bytes : List ℕ) (tokens : List Token) (ds : List DeclSyntax) (p : Pr
       let rise = subst (λ ts. Rise 0 ts (length bytes)) (all_tokens known a) (tokens_rise bytes tokens spelled.lexed.0 spelled.lexed.1) in
       subst (λ ls. AreTold (literal_at ls) a.segment.picks) (marked known same a) (told a.segment.picks [] 0 (length bytes) rise tt)
 
-  again : (others : List Token) → AreReplaced (rescaled_numbers cs p) tokens others → (es : List DeclSyntax) × IsProgram others es × (resolved_program es ≡ Ok (rescaled_program cs p)) × (resolved_abbreviations es ≡ resolved_abbreviations ds)
+  again : (others : List Token) → AreReplaced (rescaled_numbers cs p) tokens others → (es : List DeclSyntax) × IsProgram others es × (resolved_program es ≡ Ok (rescaled_program cs p)) × (resolved_abbreviations es ≡ resolved_abbreviations ds) × (program_height es ≡ program_height ds) × (WithinLimits 0 ds → WithinLimits 0 es)
   again others replaced =
       let w = whole in
       let a = w.3 in
@@ -66,6 +68,8 @@ module _ (bytes : List ℕ) (tokens : List Token) (ds : List DeclSyntax) (p : Pr
         record { spelled = subst (DeclsSpell a.again others) read.later read.good; fits = a.fits },
         (λ i. and_then (found i) (λ known. Ok known.program)) ∙ ap (λ (q : ProgramTree). Ok (rescaled_program cs q)) w.2,
         (λ i. and_then (found i) (λ known. Ok known.shorts)) ∙ sym (λ i. and_then (w.1 i) (λ known. Ok known.shorts)),
+        a.height,
+        a.within 0,
       )
 
 pub numbers_unsigned : RescaledNumbersAreUnsigned

@@ -7,6 +7,8 @@ use Rattle.um_syntax.specs.Feeding.{IsTextAnswer}
 use Rattle.um_tree.specs.RawTree.{DeclSyntax}
 use Rattle.um_tree.specs.ProgramTree.{ProgramTree}
 use Rattle.um_parse.specs.DeclGrammar.{IsProgram}
+use Rattle.um_parse.specs.ProgramHeights.{program_height}
+use Rattle.um_parse.specs.ProgramLimits.{WithinLimits}
 use Rattle.um_names.specs.Resolution.{resolved_program, resolved_abbreviations}
 use Rattle.um_scale.specs.Sizes.{AreSizes}
 use Rattle.um_scale.specs.RescaledLiterals.{rescaled_program}
@@ -31,10 +33,11 @@ RescaledNumbersAreUnsigned =
     AreSizes cs → Spells bytes tokens ds p → AreUnsigned (rescaled_numbers cs p)
 
 -- With these numbers before the units, the tokens are a program that stands for the rescaled one, with the same
--- abbreviations.
+-- abbreviations. It has the same height, and is within the limits if the program is.
 abbrev pub ReplacedProgramsAreRescaled : Type 0
 ReplacedProgramsAreRescaled =
     (bytes : List ℕ) (tokens others : List Token) (ds : List DeclSyntax) (p : ProgramTree) (cs : List Frac) →
     AreSizes cs → Spells bytes tokens ds p → AreReplaced (rescaled_numbers cs p) tokens others →
     (again : List DeclSyntax) × IsProgram others again × (resolved_program again ≡ Ok (rescaled_program cs p))
     × (resolved_abbreviations again ≡ resolved_abbreviations ds)
+    × (program_height again ≡ program_height ds) × (WithinLimits 0 ds → WithinLimits 0 again)
