@@ -116,7 +116,7 @@ def test_the_service_takes_images(service):
     ("/call", {"text": "let k = 1", "function": "k", "arguments": [1]}, 400),
     ("/call", {"text": "let k = 1", "function": "k", "arguments": ["\0"]}, 400),
     ("/call", {"image": "?", "function": "k"}, 400), ("/call", {"image": "", "function": "--help"}, 400),
-    ("/other", {"text": ""}, 404), ("/types", b"[" * 100000, 400)])
+    ("/other", {"text": ""}, 404), pytest.param("/types", b"[" * 100000, 400, id="deep")])
 def test_the_service_refuses_other_requests(service, path, body, status):
     found, tree = service(path, body)
     assert (found, list(tree)) == (status, ["error"])
