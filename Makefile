@@ -12,6 +12,7 @@ DATADIR = $(PREFIX)/share
 MANDIR = $(DATADIR)/man
 PYTHONDIR = $(DATADIR)/umc/python
 DOCDIR = $(DATADIR)/doc/umc
+ZSHDIR = $(DATADIR)/zsh/site-functions
 DESTDIR =
 
 PROGRAM = crates/umc/out/umc
@@ -44,7 +45,7 @@ export COMPLETE
 
 help:
 	@sed -n 's/^#  *\(make\)/\1/p' Makefile
-	@echo 'These may be named: PREFIX BINDIR LIBDIR INCLUDEDIR DATADIR MANDIR DOCDIR PYTHONDIR PYTHON DESTDIR PROGRAM LIBRARIES'
+	@echo 'These may be named: PREFIX BINDIR LIBDIR INCLUDEDIR DATADIR MANDIR DOCDIR ZSHDIR PYTHONDIR PYTHON DESTDIR PROGRAM LIBRARIES'
 
 install: install-program install-libraries install-python install-data
 
@@ -92,6 +93,10 @@ install-data:
 	python3 -c "$$COMPLETE" bash > $(call into,$(DATADIR)/$(BASH_COMPLETION))
 	python3 -c "$$COMPLETE" fish > $(call into,$(DATADIR)/$(FISH_COMPLETION))
 	chmod 644 $(COMPLETIONS:%=$(call into,$(DATADIR)/%))
+	$(INSTALL) -d $(call into,$(ZSHDIR))
+	{ echo '#compdef um'; python3 -c "$$COMPLETE" zsh; echo '_bash_complete -o default -F _um'; } \
+		> $(call into,$(ZSHDIR))/_um
+	chmod 644 $(call into,$(ZSHDIR))/_um
 	find $(FOLDERS) -type f ! -name '*~' ! -path '*/__pycache__/*' ! -path '*/out/*' | while IFS= read -r file; do \
 		[ -x "$$file" ] && mode=755 || mode=644; \
 		$(INSTALL) -D -m $$mode "$$file" "$(call into,$(DATADIR)/umc)/$$file" || exit; \
@@ -105,5 +110,5 @@ uninstall:
 	rm -f $(call into,$(LIBDIR)/libumc.a) $(call into,$(LIBDIR)/libumc.so) $(call into,$(LIBDIR)/$(SONAME))
 	rm -f $(call into,$(LIBDIR)/libumc.so.$(VERSION)) $(call into,$(LIBDIR)/pkgconfig/umc.pc)
 	rm -f $(call into,$(INCLUDEDIR)/umc.h) $(call into,$(MANDIR)/man1/um.1.gz) $(call into,$(MANDIR)/man1/umc.1.gz)
-	rm -f $(COMPLETIONS:%=$(call into,$(DATADIR)/%))
+	rm -f $(COMPLETIONS:%=$(call into,$(DATADIR)/%)) $(call into,$(ZSHDIR)/_um)
 	rm -rf $(call into,$(PYTHONDIR)/umc) $(call into,$(DATADIR)/umc) $(call into,$(DOCDIR))

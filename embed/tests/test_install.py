@@ -2,6 +2,7 @@
 import os
 import re
 import shlex
+import shutil
 import subprocess
 from pathlib import Path
 
@@ -51,11 +52,14 @@ def test_all_parts_are_installed(installed):
     for name in ("bin/um", "bin/umc", "include/umc.h", "lib/libumc.a", "lib/libumc.so", "lib/libumc.so.1",
                  f"lib/libumc.so.{VERSION}", "lib/pkgconfig/umc.pc", "share/man/man1/um.1.gz",
                  "share/man/man1/umc.1.gz", "share/bash-completion/completions/um",
-                 "share/fish/vendor_completions.d/um.fish", "share/umc/library/si.um", "share/umc/python/umc/VERSION",
+                 "share/fish/vendor_completions.d/um.fish", "share/zsh/site-functions/_um",
+                 "share/umc/library/si.um", "share/umc/python/umc/VERSION",
                  "share/umc/editors/vim/syntax/um.vim", "share/umc/examples/embed/call.c"):
         assert name in there
     assert not [name for name in there if "__pycache__" in name or name.endswith("~")]
     done("bash", "-n", installed / "usr/local/share/bash-completion/completions/um")
+    if shutil.which("zsh"):
+        done("zsh", "-n", installed / "usr/local/share/zsh/site-functions/_um")
 
 
 def test_uninstall_removes_what_was_installed(libraries, tmp_path):
