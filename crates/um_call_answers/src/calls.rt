@@ -186,7 +186,7 @@ fn answer_call_by(
         name: words[0].as_str(),
         texts: &words[1..],
     };
-    answer_compiled(alloc, &call, program, callable)
+    answer_call_of(alloc, &call, program, callable)
 }
 
 /// Whether each word is at most 1,048,576 bytes long.
@@ -196,8 +196,12 @@ fn are_short(words: &[String]) -> bool
     words.iter().all(|word| word.len() <= WORD_LIMIT)
 }
 
-/// The answer to a call, as `run` gives it.
-fn answer_compiled(
+/// The answer that `run` gives to a call, of a program that is checked and compiled and whose tables of names are made.
+///
+/// The budget is at most 10,000,000, and no text of an argument is longer than 1,048,576 bytes. The tables are those of
+/// this program. A call takes time for its words and its run. Want of memory is the one error; each refusal is an
+/// answer. The rules are this project's own.
+pub fn answer_call_of(
     alloc: Global,
     call: &CallWords,
     program: &Compiled,

@@ -26,7 +26,7 @@ pub use asked::read_asked;
 pub use big::answer_big;
 pub use call::answer_call;
 pub use call_words::CallWords;
-pub use calls::answer_calls;
+pub use calls::{answer_call_of, answer_calls};
 pub use compiled::Compiled;
 pub use exec::answer_exec;
 pub use generated::big_text;

@@ -18,7 +18,7 @@ returns c =
     let rest = take (length words - 1) (drop 1 words) in
     let asked : AskedCall = record { budget = budget; name = c.as_str.result.now; texts = map string_bytes rest } in
     let same = call_by_first string_bytes budget words rest c.index-words-0.result c.as_str.result.now c.requires.some c.index-words-0.is c.as_str.ensures.value (take_all (length words - 1) (drop 1 words) (omega (arith, left))) in
-    IfOk-weaker c.answer_compiled.result (λ reply. IsCallAnswer way.Code asked checked reply.text.items reply.status)
+    IfOk-weaker c.answer_call_of.result (λ reply. IsCallAnswer way.Code asked checked reply.text.items reply.status)
     (λ reply. Cases (IsTrue (are_short (map string_bytes words))) (IsRunText budget checked (map string_bytes words) reply.text.items) (reply.text.items ≡ line (codes "error 1: usage")))
     (λ reply says. inl (short, (reply.status, subst (λ (a : AskedCall). IsCallAnswer way.Code a checked reply.text.items reply.status) same says)))
-    c.answer_compiled.ensures
+    c.answer_call_of.ensures

@@ -14,7 +14,7 @@ use Rattle.um_call_answers.specs.declared.way.Way.TheVariants as way
 use Rattle.um_call_answers.specs.Calling.{asked_call}
 use Rattle.um_call_answers.specs.CallAnswer.{IsCallAnswer, RunAnswer}
 use Rattle.um_call_answers.proofs.AskedCalls.{read_as_asked, text_named}
-use Rattle.um_call_answers.proofs.calls.answer_compiled.Goals as goal
+use Rattle.um_call_answers.proofs.calls.answer_call_of.Goals as goal
 
 pub reply_to_compiled-answer-requires-clause-typed : goal.reply_to_compiled-answer-requires-clause-typed
 reply_to_compiled-answer-requires-clause-typed c =
