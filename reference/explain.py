@@ -138,10 +138,10 @@ def shape_details(source: Source, fault: ShapeFault) -> list[str]:
 
 
 def solvable(units: list[Unit], rows: list[Row]) -> list[Unit] | None:
-    """The units of the slots behind these rows; none where there is no solution. PowerRange where a power passes."""
+    """The units of the slots behind these rows, over powers without bound; none where there is no solution."""
     try:
         for row in rows:
-            units = eliminate(units, row.unit)
+            units = eliminate(units, row.unit, False)
     except NoSolution:
         return None
     return units
@@ -151,13 +151,13 @@ def core_of(rows: list[Row], start: list[Unit]) -> tuple[list[int], bool]:
     """Numbers of rows that have no solution and of which none can be left out; and whether there are more."""
     core = [len(rows) - 1]
     while (units := solvable(start, [rows[number] for number in core])) is not None:
+        if len(core) == MOST_ROWS:
+            return core, True
         for number, row in enumerate(rows):
             units = solvable(units, [row])
             if units is None:
+                core.append(number)
                 break
-        if len(core) == MOST_ROWS:
-            return core, True
-        core.append(number)
     return core, False
 
 
@@ -211,10 +211,10 @@ def unit_details(source: Source, refusal: Refusal) -> list[str]:
     bases, general = len(source.program.bases), refusal.kind == "general"
     start = rigid_units(bases, function.units, equations.slots) if general else own_variables(equations.slots)
     rows = equations.rows()[:refusal.row + 1]
+    core, more = core_of(rows, start)
+    others = [rows[number] for number in sorted(core) if number != refusal.row]
     agreement = rows[-1].agreement
     try:
-        core, more = core_of(rows, start)
-        others = [rows[number] for number in sorted(core) if number != refusal.row]
         units = start
         for row in others:
             units = eliminate(units, row.unit)
