@@ -6,7 +6,7 @@ pub mod BlankLines
 pub mod Encoded
 pub mod Printed
 pub mod GapsAgain
-pub mod StayingLines
+pub mod PlacedComments
 pub mod GapComments
 pub mod StandAgain
 pub mod Anew

@@ -6,4 +6,4 @@ pub mod Gaps
 pub mod Tidied
 pub mod Laws
 -- What mirrors the code.
-pub mod Staying
+pub mod Placed

@@ -8,7 +8,7 @@ ghost use Rattle.um_tidy.specs.Gaps.{in_line, lines, trimmed, comment, width_fro
 ghost use Rattle.um_tidy.specs.Gaps.{past_blank, own_line, below, each_line, indentation, before_token, comment_after};
 ghost use Rattle.um_tidy.specs.Gaps.{line_end, first_gap, inner_gap, last_gap, only_gap};
 
-use crate::staying::push_staying;
+use crate::comments::push_comments;
 use memchr::{memchr, memrchr};
 use std::alloc::AllocError;
 
@@ -107,7 +107,7 @@ fn push_to_end(text: &mut Vec<u8>, above: Above, gap: &[u8]) -> Result<(), Alloc
     Ok(())
 }
 
-/// Adds all lines but the last, and tells that one. Comments that stay as they are are copied together.
+/// Adds all lines but the last, and tells that one. What stays as it is of comments is copied together.
 fn push_lines<'a>(text: &mut Vec<u8>, above: Above, gap: &'a [u8]) -> Result<Line<'a>, AllocError>
     requires { length gap.now ≤ 1048576 }
     ensures size { IfOk result (λ l. length l.rest.now ≤ length gap.now) }
@@ -121,7 +121,7 @@ fn push_lines<'a>(text: &mut Vec<u8>, above: Above, gap: &'a [u8]) -> Result<Lin
     'lines: while let Some(end) = line_feed(line.rest, line.margin) {
         let above = push_own_line(text, line.above, &line.rest[..end], line.margin)?;
         let rest = &line.rest[end + 1..];
-        let len = push_staying(text, above, rest)?;
+        let len = push_comments(text, above, rest)?;
         line = past_blank_lines(above, &rest[len..]);
     }
     Ok(line)
@@ -232,12 +232,14 @@ fn push_indentation(
     push_spaces(text, indent(line, margin).max(2))
 }
 
-fn push_spaces(text: &mut Vec<u8>, n: usize) -> Result<(), AllocError>
+#[tactic(auto, using(crate::proofs::PlacedComments::spaces_added))]
+pub(crate) fn push_spaces(text: &mut Vec<u8>, n: usize) -> Result<(), AllocError>
     ensures { OnOk result (text.new.items ≡ text.old.items ++ spaces n) }
 {
-    for _ in 0..n {
-        text.push(b' ')?;
-    }
+    let Some(len) = text.len().checked_add(n) else {
+        return Err(AllocError);
+    };
+    text.resize(len, b' ')?;
     Ok(())
 }
 
@@ -290,16 +292,25 @@ fn margin_len(line: &[u8]) -> usize
     ensures within { result ≤ length line.now }
     ensures len { result ≡ prefix_len is_space line.now }
 {
-    let mut len = 0;
-    while len < line.len() && is_space(line[len]) {
-        len += 1;
+    space_end(line, 0)
+}
+
+/// Where the white space ends that stands at a place.
+pub(crate) fn space_end(bytes: &[u8], from: usize) -> usize
+    requires { from ≤ length bytes.now }
+    ensures within { (from ≤ result) × (result ≤ length bytes.now) }
+    ensures end { from + prefix_len is_space (drop from bytes.now) ≡ result }
+{
+    let mut end = from;
+    while end < bytes.len() && is_space(bytes[end]) {
+        end += 1;
     }
-    len
+    end
 }
 
 /// How many bytes are left without the white space at the end.
 #[tactic(auto, using(crate::proofs::Trimmed::trimmed_less, crate::proofs::Trimmed::trimmed_all))]
-fn trimmed_len(bytes: &[u8]) -> usize
+pub(crate) fn trimmed_len(bytes: &[u8]) -> usize
     ensures within { result ≤ length bytes.now }
     ensures kept { take result bytes.now ≡ trimmed bytes.now }
 {
@@ -321,7 +332,7 @@ fn indent(line: &[u8], margin: usize) -> usize
 }
 
 /// The columns that white space takes.
-fn width(space: &[u8]) -> usize
+pub(crate) fn width(space: &[u8]) -> usize
     requires { length space.now ≤ 1048576 }
     ensures { result ≡ width_from 0 space.now }
 {

@@ -5,11 +5,11 @@
 //! ```
 #![tactic(auto)]
 
+mod comments;
 mod gap;
 pub mod laws;
 mod spacing;
 mod stand;
-mod staying;
 mod text;
 
 pub use text::tidy_text;

@@ -59,7 +59,7 @@ lines-preserved c =
       margin = next.margin;
       line = next.line;
       added = λ last.
-          ap (λ xs. c.push_staying.new.text.items ++ xs) (next.lines last ∙ ap (λ xs. each_line last c.in_ok-above.above (lines xs)) (tail_all more len))
+          ap (λ xs. c.push_comments.new.text.items ++ xs) (next.lines last ∙ ap (λ xs. each_line last c.in_ok-above.above (lines xs)) (tail_all more len))
           ∙ c.in_ok-len.ensures.added last
           ∙ ap (λ xs. c.push_own_line.new.text.items ++ each_line last c.in_ok-above.above (lines xs)) (tail_all rest (end + 1))
           ∙ lines_step last l.line.above l.text.items _ rest end c.in_ok-above.above c.push_own_line.new.text.items line within c.in_ok-above.ensures.added c.in_ok-above.ensures.above (l.invariant.added last);

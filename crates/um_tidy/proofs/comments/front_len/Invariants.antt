@@ -1,6 +1,6 @@
 use Rattle.std.proofs.Common.{◌≡◌, ◌≤◌, ◌-◌, length, take}
 use Rattle.um_tidy.specs.Gaps.{spaces}
-use Rattle.um_tidy.proofs.staying.front_len.Given as goal
+use Rattle.um_tidy.proofs.comments.front_len.Given as goal
 
 abbrev pub invariant-loop-len : goal.invariant-loop-len
 invariant-loop-len l = record {
