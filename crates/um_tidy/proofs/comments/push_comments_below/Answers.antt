@@ -1,4 +1,4 @@
-use Rattle.std.proofs.Common.{sym, ap, ◌∙◌, ◌+◌, ◌++◌, append_assoc, length, drop, arith}
+use Rattle.std.proofs.Common.{sym, ap, ◌∙◌, ◌+◌, ◌++◌, append_assoc, drop, arith}
 use Rattle.std.specs.Prelude.{slice_range}
 use Rattle.std.proofs.lemmas.List.{append-nil}
 use Rattle.um_tidy.specs.declared.gap.Above.TheVariants as above

@@ -1,4 +1,4 @@
-use Rattle.std.proofs.Common.{◌≡◌, ◌≤◌, ◌+◌, ◌-◌, ◌++◌, List, ℕ, length, drop}
+use Rattle.std.proofs.Common.{◌≡◌, ◌≤◌, ◌-◌, ◌++◌, List, ℕ, length, drop}
 use Rattle.std.specs.Prelude.{slice_range}
 use Rattle.um_tidy.specs.declared.gap.Above.{Above}
 use Rattle.um_tidy.specs.declared.gap.Above.TheVariants as above
