@@ -116,7 +116,7 @@ def _exchange(process: subprocess.Popen[bytes], text: bytes, limits: Limits) -> 
             break
         answer += piece or b""
         if limited:
-            limits.check(began, held_by(process.pid), len(answer))
+            limits.check(began, held_by(process.pid) if limits.memory is not None else 0, len(answer))
     writer.join()
     return bytes(answer)
 

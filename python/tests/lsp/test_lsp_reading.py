@@ -9,7 +9,8 @@ from lsp.samples import EXAMPLES
 
 sys.path.insert(0, str(HOME / "python"))
 
-from umc.lsp.names import Name, Sort  # noqa: E402
+from umc.lsp.names import Sort  # noqa: E402
+from umc.lsp.placed import Name  # noqa: E402
 from umc.lsp.positions import Lines, changed  # noqa: E402
 from umc.lsp.reading import Reading  # noqa: E402
 from umc.lsp.rename import alike, order_for, replaced  # noqa: E402
@@ -53,7 +54,8 @@ def test_all_names_can_be_renamed_at_once(text: str) -> None:
     reading = Reading(text)
     assert reading.unknown == []
     found = {token.start: (token, fresh(at, name)) for at, name in enumerate(reading.names) for token in name.tokens}
-    assert sorted(found) == [token.start for token in reading.tokens if token.kind in (Kind.NAME, Kind.VARIABLE)]
+    assert sorted(found) == [token.start for token in reading.every(0, len(text))
+                             if token.kind in (Kind.NAME, Kind.VARIABLE)]
     renamed = text
     for start in sorted(found, reverse=True):
         token, new = found[start]
@@ -108,8 +110,8 @@ def test_positions_and_offsets() -> None:
 
 def test_changes() -> None:
     where = {"start": {"line": 0, "character": 1}, "end": {"line": 1, "character": 0}}
-    assert changed("ab\ncd", [{"range": where, "text": "X\n"}, {"text": "y"}]) == "y"
-    assert changed("ab\ncd", [{"range": where, "text": "X\n"}]) == "aX\ncd"
+    assert changed(Lines("ab\ncd"), [{"range": where, "text": "X\n"}, {"text": "y"}]).text == "y"
+    assert changed(Lines("ab\ncd"), [{"range": where, "text": "X\n"}]).text == "aX\ncd"
 
 
 def test_a_text_that_is_cut_off() -> None:

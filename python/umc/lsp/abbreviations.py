@@ -1,5 +1,6 @@
 """What an abbreviation of a unit stands for, which the program is asked."""
-from umc.lsp.names import Declaration, Name, Sort
+from umc.lsp.names import Sort
+from umc.lsp.placed import Declaration, Name
 from umc.lsp.reading import Reading
 from umc.program import Program
 

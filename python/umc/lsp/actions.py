@@ -6,7 +6,7 @@ from umc.lsp import facts
 from umc.lsp.analysis import Refusal
 from umc.lsp.diagnostics import diagnostics
 from umc.lsp.documents import Snapshot
-from umc.lsp.names import Declaration
+from umc.lsp.placed import Declaration
 from umc.lsp.positions import Json
 from umc.lsp.rename import replaced
 from umc.lsp.tokens import Kind, Token
@@ -46,7 +46,7 @@ def _annotations(snapshot: Snapshot, start: int, end: int) -> list[Json]:
     for made in snapshot.reading.declarations:
         if made.start > end or made.end < start:
             continue
-        holes = facts.holes(snapshot, known, made)
+        holes = facts.holes(known, made)
         for hole, unit in holes:
             if hole.start <= end and hole.end >= start and _stays(snapshot, made, [(hole, unit)]):
                 actions.append(_put_in(snapshot, f"Write the inferred unit {unit}", [(hole, unit)]))
@@ -127,7 +127,7 @@ def _missing_in(snapshot: Snapshot, refusal: Refusal) -> Iterator[Json]:
     offset = refusal.offset
     if refusal.report.status != 5 or offset is None:
         return
-    lets = [let for _, let in snapshot.reading.open_lets if let.start < offset]
+    lets = [let for made in snapshot.reading.declarations for let in made.open_lets if let.start < offset]
     expected = next((line for line in refusal.details if line.startswith("expected: ")), None)
     if not lets or expected is not None and "in" not in expected.split():
         return
@@ -141,7 +141,7 @@ def _missing_in(snapshot: Snapshot, refusal: Refusal) -> Iterator[Json]:
 
 def _places_of_in(snapshot: Snapshot, let: Token, offset: int) -> list[int]:
     """The ends of the lines from a `let` to what is refused, and the end of what stands before that."""
-    tokens = [token for token in snapshot.reading.tokens if let.start <= token.start < offset]
+    tokens = snapshot.reading.tokens(let.start, offset)
     lines = snapshot.lines
     ends = [token.end for token, after in zip(tokens, tokens[1:])
             if lines.line_of(token.start) != lines.line_of(after.start)]

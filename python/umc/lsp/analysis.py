@@ -2,14 +2,13 @@
 import re
 import threading
 from collections.abc import Callable, Sequence
-from concurrent.futures import ThreadPoolExecutor
 from dataclasses import dataclass, field
 from functools import cached_property
 from typing import Generic, TypeVar
 
 from umc import places, reports
 from umc.limits import Limits
-from umc.lsp.names import Declaration
+from umc.lsp.placed import Declaration
 from umc.lsp.positions import Lines
 from umc.lsp.reading import Reading
 from umc.program import Answer, Program
@@ -17,9 +16,9 @@ from umc.reports import Report
 
 Value = TypeVar("Value")
 ROUNDS = 8
-SYNTAX = 5
-# What begins a declaration, at the beginning of a line.
-DECLARATION = re.compile(r"^(?:let|type|\[<)", re.MULTILINE)
+# A line of `annot`: that of a function, or that of a part with its place.
+FUNCTION = re.compile(r"^([^ \n]+) : (.*)$", re.MULTILINE)
+PART = re.compile(r"^  ([0-9]+:[0-9]+) (.*)$", re.MULTILINE)
 
 
 class Dropped(Exception):
@@ -64,12 +63,28 @@ class Scheme:
     result: str
 
 
+class Parts:
+    """The types of parts as the program printed them, each by its place; `first_line` lines stand before the text."""
+
+    def __init__(self, printed: str, lines: Lines, first_line: int):
+        self._printed, self._lines, self._first_line = printed, lines, first_line
+
+    @cached_property
+    def _of_place(self) -> dict[str, str]:
+        return dict(PART.findall(self._printed))
+
+    def get(self, offset: int) -> str | None:
+        """The type of the part at an offset of the text; None if none is told there."""
+        line, column = self._lines.counted(offset)
+        return self._of_place.get(f"{line + self._first_line}:{column}")
+
+
 @dataclass(frozen=True)
 class Known:
     """The types of functions by their names, and of parts by their offsets. `left_out` was not asked about."""
 
     schemes: dict[str, Scheme]
-    parts: dict[int, str]
+    parts: Parts
     left_out: frozenset[int] = frozenset()
 
 
@@ -96,12 +111,14 @@ class Analysis:
     The reading of the text is made when it is needed: of a text that the program accepts it isn't for the types.
     """
 
-    def __init__(self, program: Program, text: str, before: str, read: Callable[[], Reading], stale: threading.Event):
-        self.program, self.text, self.before = program, text, before
+    def __init__(self, program: Program, lines: Lines, before: str, read: Callable[[], Reading],
+                 stale: threading.Event):
+        self.program, self.lines, self.before = program, lines, before
         self._read, self.stale = read, stale
-        self.lines = Lines(text)
+        self.text = lines.text
         self.first_line = before.count("\n")
         self.earlier: Known | None = None
+        self._nowhere = Parts("", self.lines, self.first_line)
         self._outcome = Once(self._ask_outcome)
         self._known = Once(self._ask_known)
 
@@ -157,7 +174,7 @@ class Analysis:
     def for_later(self) -> Known | None:
         """What the next version may know of this one: the types of functions, but no places."""
         known = self.known if self._known.is_made else None
-        return Known(known.schemes, {}, known.left_out) if known else self.earlier
+        return Known(known.schemes, self._nowhere, known.left_out) if known else self.earlier
 
     def _ask_outcome(self) -> Outcome:
         answer = self.ask([self.command], self.text)
@@ -172,44 +189,18 @@ class Analysis:
         """What `explain` says after the report line and the excerpt; nothing if the program has no such command."""
         if not report.has_explanation or not self.program.has("explain"):
             return []
-        offset = self.offset(report.line or 1, report.column or 1) if report.status == SYNTAX else None
-        answer = self.ask(["explain"], text) if offset is None else self.expected(text, offset)
+        answer = self.ask(["explain"], text)
         first, *lines = answer.output.decode("utf-8", "replace").removesuffix("\n").split("\n")
         if answer.status != 0 or reports.parse(first) != report:
             return []
         return lines[2:] if lines and places.GUTTER.match(lines[0]) else lines
 
-    def expected(self, text: str, offset: int) -> Answer:
-        """What `explain` says of a text of which no program goes on at this offset.
-
-        It tries each word there, and reads all that stands before. What stands before the last declaration can be left
-        out if it is a program by itself, for then that declaration begins another one.
-        """
-        cut = max((found.start() for found in DECLARATION.finditer(text, 0, offset)), default=0)
-        if cut > 0:
-            with ThreadPoolExecutor(1) as pool:
-                before = pool.submit(self.ask, ["fmt"], text[:cut])
-                lines = self.first_line + text.count("\n", 0, cut)
-                answer = self.ask_alone(["explain"], "\n" * lines + text[cut:])
-                if before.result().status == 0:
-                    return answer
-        return self.ask(["explain"], text)
-
     def _parsed(self, output: str, left_out: frozenset[int]) -> Known:
         schemes: dict[str, Scheme] = {}
-        parts: dict[int, str] = {}
-        for line in output.splitlines():
-            if line.startswith("  "):
-                place, _, kind = line[2:].partition(" ")
-                row, _, column = place.partition(":")
-                offset = self.offset(int(row), int(column))
-                if offset is not None:
-                    parts[offset] = kind
-            else:
-                name, _, types = line.partition(" : ")
-                *parameters, result = types.split(" -> ")
-                schemes[name] = Scheme(line, tuple(parameters), result)
-        return Known(schemes, parts, left_out)
+        for name, types in FUNCTION.findall(output):
+            *parameters, result = types.split(" -> ")
+            schemes[name] = Scheme(f"{name} : {types}", tuple(parameters), result)
+        return Known(schemes, Parts(output, self.lines, self.first_line), left_out)
 
     # ---- a text without the declarations that are refused
 
@@ -229,7 +220,7 @@ class Analysis:
             report = reports.of_answer(answer.status, answer.output)
             offset = None if report.line is None else self.offset(report.line, report.column or 1)
             refusal = Refusal(report, offset, ())
-        return Known({}, {}, frozenset(declaration.start for declaration in self.reading.declarations))
+        return Known({}, self._nowhere, frozenset(declaration.start for declaration in self.reading.declarations))
 
     def _to_leave_out(self, refusal: Refusal | None, left_out: set[int]) -> set[int]:
         """Where the declaration begins that is refused, and all that use what it declares."""
@@ -255,7 +246,7 @@ class Analysis:
                 continue
             found.add(one.start)
             for token in [one.name, *(member.token for member in one.members)]:
-                name = self.reading.of_token.get(token.start) if token else None
+                name = self.reading.name_of(token) if token else None
                 waiting += [self.reading.declaration_at(use.start) for use in name.uses] if name else []
         return found
 

@@ -8,11 +8,11 @@ from dataclasses import dataclass
 from typing import TYPE_CHECKING
 
 from umc.lsp.cursor import Cursor
-from umc.lsp.names import Declaration, Hole, Name, Sort, notes
+from umc.lsp.names import Bound, Hole, Sort, notes
 from umc.lsp.tokens import Kind, Token
 
 if TYPE_CHECKING:
-    from umc.lsp.reading import Reading
+    from umc.lsp.piece import Piece
 
 PAIRS = {")": "(", "]": "[", "}": "{"}
 
@@ -30,21 +30,18 @@ class Open:
 class Body:
     """Reads one body."""
 
-    def __init__(self, reading: "Reading", made: Declaration, cursor: Cursor, scope: list[Name],
-                 variables: dict[str, Name] | None = None):
-        self.reading, self.made, self.cursor = reading, made, cursor
+    def __init__(self, piece: "Piece", cursor: Cursor, scope: list[Bound], variables: dict[str, Bound]):
+        self.piece, self.cursor = piece, cursor
         self.scope = list(scope)
-        self.variables = {} if variables is None else variables
+        self.variables = variables
         self.open: list[Open] = []
 
     def read(self) -> None:
         """Reads all tokens from the cursor on."""
         while not self.cursor.ended:
             self._token(self.cursor.next())
-        self.reading.open_lets += [(self.made, one.token) for one in self.open if one.what == "let"]
-        self._close_to(0, self.made.end)
-        for name in self.scope:
-            name.known_to = max(name.known_to, self.made.end)
+        self.piece.open_lets += [one.token for one in self.open if one.what == "let"]
+        self._close_to(0, self.piece.end)
 
     def _token(self, token: Token) -> None:
         if token.kind is Kind.NAME:
@@ -105,8 +102,7 @@ class Body:
 
     def _bind(self, binder: Token | None, known_from: int) -> None:
         if binder and binder.kind is Kind.NAME:
-            name = Name(Sort.LOCAL, binder, known_from, self.made.end, self.made)
-            self.scope.append(self.reading.declare(name))
+            self.scope.append(self.piece.bind(Bound(Sort.LOCAL, binder, known_from, self.piece.end)))
 
     # ---- words
 
@@ -142,7 +138,7 @@ class Body:
         opened = self._last("(")
         if opened is not None:
             self._holes(notes(tokens), self.open[opened].token)
-        self.reading.type(tokens, self.made, self.variables)
+        self.piece.type(tokens, self.variables)
 
     # ---- names and numbers
 
@@ -153,28 +149,31 @@ class Body:
             opening = cursor.next()
             tokens = cursor.until({">"})
             closing = cursor.take(">")
-            self.reading.unit([opening, *tokens, *([closing] if closing else [])], self.made, self.variables)
+            self.piece.unit([opening, *tokens, *([closing] if closing else [])], self.variables)
             self._holes([tokens], token)
 
     def _holes(self, found: list[list[Token]], part: Token) -> None:
         """Takes down the holes among the units of a part."""
         for at, tokens in enumerate(found):
             if len(tokens) == 1 and tokens[0].kind is Kind.HOLE:
-                self.reading.holes.append(Hole(tokens[0], part.start, at))
+                self.piece.holes.append(Hole(tokens[0], part.start, at))
 
     def _field(self, point: Token) -> None:
         token = self.cursor.take_kind(Kind.NAME)
         if token:
-            self.reading.use(self.reading.fields.get(token.text), token)
+            self.piece.use_of_text("field", token)
 
     def _name(self, token: Token) -> None:
         before = self.cursor.tokens[self.cursor.index - 2].text
         if before in ("{", ";") and self.open and self.open[-1].what == "{" and self.cursor.at("="):
-            self.reading.use(self.reading.fields.get(token.text), token)
+            self.piece.use_of_text("field", token)
             self.cursor.next()
             return
-        local = next((name for name in reversed(self.scope) if name.text == token.text), None)
-        self.reading.use(local or self.reading.functions.get(token.text), token)
+        local = next((name for name in reversed(self.scope) if name.token.text == token.text), None)
+        if local:
+            self.piece.use(local, token)
+        else:
+            self.piece.use_of_text("function", token)
 
 
 ACTIONS: dict[str, Callable[[Body, Token], None]] = {

@@ -17,7 +17,7 @@ from umc.texts import STANDARD_INPUT
 
 DEBIAN = "/usr/bin/python3"
 NEEDED = "the language server needs Debian's package python3-pylsp-jsonrpc"
-# Readings are large trees without cycles, so that looking for garbage often only costs time.
+# Readings are large trees that mostly stay, so that looking for garbage often only costs time.
 OBJECTS_BEFORE_COLLECTION = 100_000
 
 

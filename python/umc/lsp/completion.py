@@ -6,8 +6,10 @@ from umc.lsp import facts
 from umc.lsp.analysis import Known
 from umc.lsp.documents import Snapshot
 from umc.lsp.hover import of_name
-from umc.lsp.names import Declaration, Name, Sort
+from umc.lsp.names import Sort
+from umc.lsp.placed import Declaration, Name
 from umc.lsp.positions import Json
+from umc.lsp.reading import Reading
 from umc.lsp.tokens import WORDS, Kind, Token
 
 FUNCTION, FIELD, VARIABLE, UNIT, KEYWORD, CONSTANT, STRUCT, PARAMETER = 3, 5, 6, 11, 14, 21, 22, 25
@@ -53,15 +55,22 @@ def completion(snapshot: Snapshot, params: Json) -> Json | None:
 def place_at(snapshot: Snapshot, offset: int) -> Place | None:
     """The place at an offset; None inside a comment."""
     reading = snapshot.reading
-    if any(token.kind is Kind.COMMENT and token.start < offset <= token.end for token in reading.every):
+    if reading.is_in_comment(offset):
         return None
-    at = reading.index_at(offset - 1)
-    start, before = offset, reading.tokens[:at + 1]
-    if at >= 0:
-        last = reading.tokens[at]
-        if last.end >= offset and (last.kind in (Kind.NAME, Kind.VARIABLE, Kind.WORD, Kind.HOLE) or last.text == "'"):
-            start, before = last.start, reading.tokens[:at]
-    return Place(start, offset, before)
+    before = _before(reading, offset)
+    last = before[-1] if before else None
+    if last and last.end >= offset and (last.kind in (Kind.NAME, Kind.VARIABLE, Kind.WORD, Kind.HOLE)
+                                        or last.text == "'"):
+        return Place(last.start, offset, _before(reading, last.start))
+    return Place(offset, offset, before)
+
+
+def _before(reading: Reading, offset: int) -> list[Token]:
+    """The tokens that begin before an offset in the declaration of the last one of them."""
+    if not reading.declarations:
+        return []
+    made = reading.declaration_at(offset - 1)
+    return made.tokens[:made.index_at(offset - 1) + 1]
 
 
 # ---- names
@@ -73,25 +82,25 @@ def names_at(snapshot: Snapshot, place: Place) -> list[Name]:
         return []
     made = reading.declaration_at(place.before[-1].start)
     if in_unit(snapshot, place):
-        own = [name for name in reading.names if name.sort is Sort.UNIT and name.declaration is made]
-        return own + [name for name in reading.measures if _is_before(snapshot, name, made)]
+        own = [name for name in made.names if name.sort is Sort.UNIT]
+        return own + [name for name in reading.measures if _is_before(name, made)]
     if in_type(place):
         records = [name for name in reading.types.values() if name.sort is Sort.RECORD]
-        return [name for name in records if _is_before(snapshot, name, made)]
-    if made.sort is not Sort.FUNCTION or made.equals is None or place.start <= made.equals.start:
+        return [name for name in records if _is_before(name, made)]
+    if made.sort is not Sort.FUNCTION or made.equals is None or place.start <= made.head_end:
         return []
     fields = list(reading.fields.values()) if place.last() == "{" else []
-    local = [name for name in reading.names if name.sort.is_variable and name.declaration is made
-             and name.known_from <= place.start and (place.start <= name.known_to or name.known_to >= made.end)]
+    local = [name for name in made.names if name.sort.is_variable and name.known_from <= place.start
+             and (place.start <= name.known_to or name.known_to >= made.end)]
     known = [name for name in reading.functions.values()
-             if _is_before(snapshot, name, made) or name.declaration is made and name.known_from < made.end]
+             if _is_before(name, made) or name.declaration is made and name.known_from < made.end]
     hidden = {name.text: name for name in [*known, *local]}
     return fields + [name for name in reversed(hidden.values())]
 
 
-def _is_before(snapshot: Snapshot, name: Name, made: Declaration) -> bool:
+def _is_before(name: Name, made: Declaration) -> bool:
     """Whether a name is declared before a declaration: in the text, or in a file before it."""
-    return name.declaration.source != snapshot.uri or name.declaration.end <= made.start
+    return not name.is_of_text or name.declaration.number < made.number
 
 
 def in_unit(snapshot: Snapshot, place: Place) -> bool:
@@ -121,10 +130,10 @@ def in_type(place: Place) -> bool:
 def _fields(snapshot: Snapshot, known: Known, place: Place) -> list[Name]:
     """The fields of the record before the point, if that is known; otherwise all fields."""
     reading = snapshot.reading
-    owner = reading.of_token.get(place.before[-2].start)
+    owner = reading.name_of(place.before[-2])
     record = None
     if owner and owner.sort is not Sort.FUNCTION:
-        kind = facts.of_name(snapshot, known, owner) or ""
+        kind = facts.of_name(known, owner) or ""
         record = reading.types.get(kind.partition("<")[0])
     every = list(reading.fields.values())
     return [name for name in every if name.declaration.name and name.declaration.name.text == record.text] if (
@@ -139,7 +148,7 @@ def words_at(snapshot: Snapshot, start: int) -> list[str] | None:
     if not analysis.program.has("explain"):
         return None
     for text in (snapshot.text[:start], snapshot.text[:start] + NO_CONTINUATION):
-        answer = analysis.expected(text, len(text))
+        answer = analysis.ask(["explain"], text)
         first, *lines = answer.output.decode("utf-8", "replace").split("\n")
         report = reports.parse(first)
         if report and report.status == 5:
@@ -159,7 +168,7 @@ def _words(expected: list[str] | None, place: Place) -> list[str]:
 
 def _item(snapshot: Snapshot, known: Known, name: Name, place: Place, order: str) -> Json:
     kind = KINDS[name.sort]
-    if name.sort is Sort.FUNCTION and not name.declaration.parameters:
+    if name.declaration.is_constant and name.sort is Sort.FUNCTION:
         kind = CONSTANT
     return {"label": name.text, "kind": kind, "detail": _detail(snapshot, known, name), "sortText": order + name.text,
             "textEdit": {"range": snapshot.range(place.start, place.offset), "newText": name.text}}
@@ -172,7 +181,7 @@ def _detail(snapshot: Snapshot, known: Known, name: Name) -> str:
     if name.sort is Sort.ABBREVIATION:
         return f"= {facts.abbreviations(snapshot, known).get(name.text, '?')}"
     if name.sort.is_variable or name.sort is Sort.FIELD:
-        return facts.of_name(snapshot, known, name) or ""
+        return facts.of_name(known, name) or ""
     return of_name(snapshot, known, name).said[-1] if name.sort is Sort.UNIT else str(name.sort.value)
 
 

@@ -5,6 +5,7 @@ from urllib.parse import unquote, urlsplit
 
 from umc.lsp.abbreviations import Abbreviations
 from umc.lsp.analysis import Analysis, Once
+from umc.lsp.kept import Kept
 from umc.lsp.library import Libraries
 from umc.lsp.positions import Json, Lines, changed
 from umc.lsp.reading import Reading
@@ -14,13 +15,16 @@ from umc.program import Program
 class Snapshot:
     """One version of a text. It never changes; a newer version is another snapshot."""
 
-    def __init__(self, uri: str, version: int | None, text: str, workspace: "Workspace"):
-        self.uri, self.version, self.text, self.workspace = uri, version, text, workspace
+    def __init__(self, uri: str, version: int | None, lines: Lines, workspace: "Workspace", kept: Kept):
+        self.uri, self.version, self.lines, self.workspace, self.kept = uri, version, lines, workspace, kept
         self.stale = threading.Event()
-        self.library = workspace.libraries.of(text, path_of(uri))
-        self._reading = Once(lambda: Reading(text, self.library.readings, uri))
-        self.analysis = Analysis(workspace.program, text, self.library.text, self._reading.get, self.stale)
-        self.lines = self.analysis.lines
+        self.library = workspace.libraries.of(self.text, path_of(uri))
+        self._reading = Once(lambda: Reading(self.text, self.library.readings, uri, kept))
+        self.analysis = Analysis(workspace.program, lines, self.library.text, self._reading.get, self.stale)
+
+    @property
+    def text(self) -> str:
+        return self.lines.text
 
     @property
     def reading(self) -> Reading:
@@ -57,16 +61,22 @@ class Workspace:
         return found
 
     def open(self, uri: str, version: int | None, text: str) -> Snapshot:
-        """A text that was opened, or a new version of one. What is asked of an older version is dropped."""
+        """A text that was opened."""
+        return self._put(uri, version, Lines(text))
+
+    def _put(self, uri: str, version: int | None, lines: Lines) -> Snapshot:
+        """A new version of a text, if there was one. What is asked of an older version is dropped."""
         earlier = self._open.get(uri)
         self.close(uri)
-        snapshot = self._open[uri] = Snapshot(uri, version, text, self)
+        kept = earlier.kept if earlier else Kept()
+        snapshot = self._open[uri] = Snapshot(uri, version, lines, self, kept)
         if earlier:
             snapshot.analysis.earlier = earlier.analysis.for_later
         return snapshot
 
     def change(self, uri: str, version: int | None, changes: list[Json]) -> Snapshot:
-        return self.open(uri, version, changed(self._open[uri].text, changes))
+        """The text of a version that was open, after changes."""
+        return self._put(uri, version, changed(self._open[uri].lines, changes))
 
     def close(self, uri: str) -> None:
         if uri in self._open:

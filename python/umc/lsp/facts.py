@@ -1,32 +1,29 @@
 """The types of names, parts and holes, as the program tells them."""
 from umc.lsp.analysis import Known
 from umc.lsp.documents import Snapshot
-from umc.lsp.names import Declaration, Name, Sort
+from umc.lsp.names import Sort
+from umc.lsp.placed import Declaration, Name
 from umc.lsp.tokens import Kind, Token
 
 
-def written(snapshot: Snapshot, tokens: list[Token], source: str = "") -> str:
+def written(tokens: list[Token]) -> str:
     """Tokens as they stand in the text, with runs of white space as one space and without comments."""
-    text = snapshot.lines_of(source or snapshot.uri).text
-    pieces = []
-    for before, token in zip([None, *tokens], tokens):
-        gap = before is not None and text[before.end:token.start] != ""
-        pieces.append((" " if gap else "") + token.text)
-    return "".join(pieces)
+    return "".join((" " if before and before.end < token.start else "") + token.text
+                   for before, token in zip([None, *tokens], tokens))
 
 
-def of_name(snapshot: Snapshot, known: Known, name: Name) -> str | None:
+def of_name(known: Known, name: Name) -> str | None:
     """The type of a variable or a field; None if it isn't known."""
     if name.sort is Sort.PARAMETER:
-        inferred = of_parameter(snapshot, known, name)
+        inferred = of_parameter(known, name)
         if inferred:
             return inferred
     if name.annotation:
-        return written(snapshot, name.annotation.tokens, name.declaration.source)
-    return next((known.parts[use.start] for use in name.uses if use.start in known.parts), None)
+        return written(name.annotation.tokens)
+    return next((kind for kind in (known.parts.get(use.start) for use in name.uses) if kind), None)
 
 
-def of_parameter(snapshot: Snapshot, known: Known, name: Name) -> str | None:
+def of_parameter(known: Known, name: Name) -> str | None:
     """The type of a parameter as the scheme of its function has it."""
     made = name.declaration
     scheme = known.schemes.get(made.name.text) if made.name else None
@@ -43,7 +40,7 @@ def units_of(kind: str) -> list[str]:
     return ["1"] if kind.startswith("num") else []
 
 
-def holes(snapshot: Snapshot, known: Known, made: Declaration) -> list[tuple[Token, str]]:
+def holes(known: Known, made: Declaration) -> list[tuple[Token, str]]:
     """The holes of a function, each with the unit that the program found for it."""
     scheme = known.schemes.get(made.name.text) if made.name and made.sort is Sort.FUNCTION else None
     if scheme is None:
@@ -53,10 +50,9 @@ def holes(snapshot: Snapshot, known: Known, made: Declaration) -> list[tuple[Tok
     for annotation, kind in zip(noted, [*scheme.parameters, scheme.result]):
         if annotation:
             found += [(note[0], unit) for note, unit in zip(annotation.notes, units_of(kind)) if _is_hole(note)]
-    for hole in snapshot.reading.holes:
-        if made.start <= hole.token.start < made.end and hole.part in known.parts:
-            units = units_of(known.parts[hole.part])
-            found += [(hole.token, units[hole.at])] if hole.at < len(units) else []
+    for hole in made.holes:
+        units = units_of(known.parts.get(hole.part) or "")
+        found += [(hole.token, units[hole.at])] if hole.at < len(units) else []
     return found
 
 
@@ -71,10 +67,11 @@ def abbreviations(snapshot: Snapshot, known: Known) -> dict[str, str]:
 
 def part(snapshot: Snapshot, token: Token) -> int:
     """The offset that the program tells for the part which a token names: of a field that is taken, its point."""
-    reading = snapshot.reading
-    before = reading.index_at(token.start) - 1
-    if before >= 0 and token.kind is Kind.NAME and reading.tokens[before].text == ".":
-        return reading.tokens[before].start
+    if token.kind is Kind.NAME:
+        made = snapshot.reading.declaration_at(token.start)
+        at = made.index_at(token.start) - 1
+        if at >= 0 and made.tokens[at].text == ".":
+            return made.tokens[at].start
     return token.start
 
 

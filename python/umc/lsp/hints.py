@@ -12,4 +12,4 @@ def inlay_hints(snapshot: Snapshot, params: Json) -> list[Json]:
     known = snapshot.analysis.known
     return [{"position": snapshot.lines.position(hole.end), "label": f": {unit}", "kind": TYPE}
             for made in snapshot.reading.declarations if made.start < end and made.end > start
-            for hole, unit in facts.holes(snapshot, known, made) if start <= hole.start < end]
+            for hole, unit in facts.holes(known, made) if start <= hole.start < end]

@@ -4,7 +4,8 @@ from dataclasses import dataclass, field
 from umc.lsp import facts
 from umc.lsp.analysis import Known
 from umc.lsp.documents import Snapshot
-from umc.lsp.names import Name, Sort
+from umc.lsp.names import Sort
+from umc.lsp.placed import Name
 from umc.lsp.positions import Json
 from umc.lsp.tokens import Kind, Token
 
@@ -36,7 +37,7 @@ def hover(snapshot: Snapshot, params: Json) -> Json | None:
 def described(snapshot: Snapshot, token: Token) -> Shown | None:
     """What is known of a token."""
     known = snapshot.analysis.known
-    name = snapshot.reading.of_token.get(token.start)
+    name = snapshot.reading.name_of(token)
     if name:
         return of_name(snapshot, known, name, token)
     if token.kind is Kind.HOLE:
@@ -49,7 +50,7 @@ def of_name(snapshot: Snapshot, known: Known, name: Name, token: Token | None = 
     """What is known of a name, used at a token."""
     sort, made = name.sort, name.declaration
     if sort.is_type:
-        shown = Shown([facts.written(snapshot, made.tokens, made.source)], [_sentence(snapshot, known, name)])
+        shown = Shown([facts.written(made.tokens)], [_sentence(snapshot, known, name)])
     elif sort is Sort.FUNCTION:
         shown = _function(snapshot, known, name)
     elif sort is Sort.UNIT:
@@ -57,7 +58,7 @@ def of_name(snapshot: Snapshot, known: Known, name: Name, token: Token | None = 
         return Shown([name.text], [f"{what} of {made.name.text}" if made.name else what])
     else:
         owner = f" of {made.name.text}" if made.name else ""
-        kind = facts.of_name(snapshot, known, name)
+        kind = facts.of_name(known, name)
         shown = Shown([f"{name.text} : {kind}" if kind else name.text], [name.sort.value + owner])
         return _with_use(snapshot, known, shown, token, kind)
     above = facts.comment_above(snapshot, name)
@@ -84,12 +85,12 @@ def _function(snapshot: Snapshot, known: Known, name: Name) -> Shown:
     if scheme:
         return Shown([scheme.line])
     head = [token for token in made.tokens if token.start < made.head_end]
-    return Shown([facts.written(snapshot, head, made.source)], ["its type isn't known, since it is refused"])
+    return Shown([facts.written(head)], ["its type isn't known, since it is refused"])
 
 
 def _hole(snapshot: Snapshot, known: Known, token: Token) -> Shown | None:
     made = snapshot.reading.declaration_at(token.start)
-    for hole, unit in facts.holes(snapshot, known, made):
+    for hole, unit in facts.holes(known, made):
         if hole.start == token.start:
             return Shown([f"<{unit}>"], ["the unit that is inferred here"])
     for parameter, kind in zip(made.parameters, _parameters(known, made.name)):

@@ -1,8 +1,16 @@
-"""What the reading of a text finds: declarations, names with the places where they are used, and their scopes."""
+"""What the reading of a declaration finds: the names that it binds, and the types and holes that it has.
+
+The places are counted from the beginning of the declaration, so that they stay right wherever it stands.
+"""
 from dataclasses import dataclass, field
 from enum import Enum
+from typing import Literal
 
-from umc.lsp.tokens import Kind, Token
+from umc.lsp.tokens import Token, moved
+
+# The spaces of names that are known in the whole text after their declaration.
+Space = Literal["type", "function", "field"]
+SPACES: tuple[Space, ...] = ("type", "function", "field")
 
 
 class Sort(Enum):
@@ -18,6 +26,11 @@ class Sort(Enum):
     UNIT = "unit variable"
 
     @property
+    def space(self) -> Space | None:
+        """The space of names of the whole text that it is in; None for a name of one declaration."""
+        return SPACE_OF.get(self)
+
+    @property
     def is_measure(self) -> bool:
         return self in (Sort.MEASURE, Sort.ABBREVIATION)
 
@@ -31,15 +44,15 @@ class Sort(Enum):
         return self in (Sort.PARAMETER, Sort.LOCAL)
 
 
+SPACE_OF: dict[Sort, Space] = {Sort.MEASURE: "type", Sort.ABBREVIATION: "type", Sort.RECORD: "type",
+                               Sort.FUNCTION: "function", Sort.FIELD: "field"}
+
+
 @dataclass(eq=False)
 class Annotation:
     """A type as it is written, from its first token to its last."""
 
     tokens: list[Token]
-
-    @property
-    def start(self) -> int:
-        return self.tokens[0].start
 
     @property
     def end(self) -> int:
@@ -50,11 +63,8 @@ class Annotation:
         """The units between `<` and `>`, in order."""
         return notes(self.tokens)
 
-    @property
-    def record(self) -> Token | None:
-        """The name of the record whose type it is, or the type of a list of."""
-        first = next((token for token in self.tokens if token.text not in ("(", "list", ")")), None)
-        return first if first and first.kind is Kind.NAME else None
+    def moved(self, by: int) -> "Annotation":
+        return Annotation(moved(self.tokens, by))
 
 
 def notes(tokens: list[Token]) -> list[list[Token]]:
@@ -82,14 +92,16 @@ class Hole:
 
 
 @dataclass(eq=False)
-class Name:
-    """A name that a text declares: where, in which part of the text it is known, and where it is used."""
+class Bound:
+    """A name that a declaration binds: where, and in which part of the text it is known.
+
+    `uses` are the places in the declaration at which a name of it alone is used.
+    """
 
     sort: Sort
     token: Token
     known_from: int
     known_to: int
-    declaration: "Declaration"
     annotation: Annotation | None = None
     is_parameter_of_units: bool = False
     uses: list[Token] = field(default_factory=list)
@@ -97,11 +109,6 @@ class Name:
     @property
     def text(self) -> str:
         return self.token.text
-
-    @property
-    def tokens(self) -> list[Token]:
-        """The places of the name, that of its declaration first."""
-        return [self.token, *self.uses]
 
 
 @dataclass(eq=False)
@@ -111,29 +118,5 @@ class Parameter:
     binder: Token
     annotation: Annotation | None
 
-
-@dataclass(eq=False)
-class Declaration:
-    """A declaration of a text, from its first token to its last. `source` is the file that it stands in."""
-
-    tokens: list[Token]
-    source: str = ""
-    sort: Sort | None = None
-    name: Token | None = None
-    parameters: list[Parameter] = field(default_factory=list)
-    result: Annotation | None = None
-    equals: Token | None = None
-    members: list[Name] = field(default_factory=list)
-
-    @property
-    def start(self) -> int:
-        return self.tokens[0].start
-
-    @property
-    def end(self) -> int:
-        return self.tokens[-1].end
-
-    @property
-    def head_end(self) -> int:
-        """Where the part before the `=` ends."""
-        return self.equals.start if self.equals else self.end
+    def moved(self, by: int) -> "Parameter":
+        return Parameter(self.binder.moved(by), self.annotation and self.annotation.moved(by))

@@ -1,6 +1,6 @@
 """Where a name is declared, and where it is used."""
 from umc.lsp.documents import Snapshot
-from umc.lsp.names import Name
+from umc.lsp.placed import Name
 from umc.lsp.positions import Json
 from umc.lsp.tokens import Token
 
@@ -10,13 +10,13 @@ WRITE, READ = 3, 2
 def name_at(snapshot: Snapshot, params: Json) -> tuple[Name, Token] | None:
     """The name at a position, and the token there."""
     token = snapshot.reading.token_at(snapshot.offset(params["position"]))
-    name = snapshot.reading.of_token.get(token.start) if token else None
+    name = snapshot.reading.name_of(token) if token else None
     return (name, token) if name and token else None
 
 
 def here(snapshot: Snapshot, name: Name) -> list[Token]:
     """The places of a name in this text."""
-    return name.tokens if name.declaration.source == snapshot.uri else name.uses
+    return name.tokens if name.is_of_text else name.uses
 
 
 def definition(snapshot: Snapshot, params: Json) -> Json | None:

@@ -45,10 +45,15 @@ class Lines:
                 return at
         return end
 
+    def place(self, offset: int) -> tuple[int, int]:
+        """The line of an offset and its column, as the protocol counts them."""
+        line = bisect_right(self._starts, offset) - 1
+        return line, units(self.text[self._starts[line]:offset])
+
     def position(self, offset: int) -> Json:
         """The position of an offset."""
-        line = bisect_right(self._starts, offset) - 1
-        return {"line": line, "character": units(self.text[self._starts[line]:offset])}
+        line, column = self.place(offset)
+        return {"line": line, "character": column}
 
     def range(self, start: int, end: int) -> Json:
         """The range between two offsets."""
@@ -66,6 +71,11 @@ class Lines:
         """The offset at which a line ends, before what ends it."""
         return self._ends[line]
 
+    def counted(self, offset: int) -> tuple[int, int]:
+        """The line and column of an offset as the program counts them."""
+        line = bisect_right(self._feeds, offset)
+        return line, offset - self._feeds[line - 1] + 1
+
     def at(self, line: int, column: int) -> int:
         """The offset of a place of the program; at most the end of the text."""
         if line > len(self._feeds):
@@ -73,13 +83,12 @@ class Lines:
         return min(self._feeds[line - 1] + column - 1, len(self.text))
 
 
-def changed(text: str, changes: list[Json]) -> str:
-    """A text after the changes that an editor sent, each made on what the one before left."""
+def changed(lines: Lines, changes: list[Json]) -> Lines:
+    """The lines of a text after the changes that an editor sent, each made on what the one before left."""
     for change in changes:
-        where = change.get("range")
-        if where is None:
-            text = change["text"]
-        else:
-            lines = Lines(text)
-            text = text[:lines.offset(where["start"])] + change["text"] + text[lines.offset(where["end"]):]
-    return text
+        text, where = change["text"], change.get("range")
+        if where is not None:
+            start, end = lines.offset(where["start"]), lines.offset(where["end"])
+            text = lines.text[:start] + text + lines.text[end:]
+        lines = Lines(text)
+    return lines

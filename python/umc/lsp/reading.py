@@ -3,272 +3,166 @@
 It is no grammar. It reads any text, also one that the program refuses, and looks at brackets and at the words
 `let in if then else match with` alone. The program decides whether a text is right: see `rename`.
 """
-from bisect import bisect_right
+from bisect import bisect_left, bisect_right
 from collections.abc import Sequence
-from dataclasses import replace
 from functools import cached_property
+from itertools import accumulate
 
-from umc.lsp.body import Body
-from umc.lsp.cursor import Cursor, annotation
-from umc.lsp.names import Declaration, Hole, Name, Parameter, Sort
-from umc.lsp.tokens import Kind, Token, split
-
-# A declaration begins with one of the first. An expression can begin after one of the others, so that a `let` there is
-# a local one.
-STARTS = frozenset(["[<", "type", "let"])
-BEFORE_EXPRESSION = frozenset(["=", "in", "if", "then", "else", "match", "->", "(", "[", ";", "{"])
+from umc.lsp.cut import beginnings
+from umc.lsp.kept import Kept
+from umc.lsp.names import SPACES, Bound, Space
+from umc.lsp.placed import Declaration, Name
+from umc.lsp.tokens import MARK, Kind, Token, moved
 
 
 class Reading:
-    """A text as its tokens tell it."""
+    """A version of a text as its tokens tell it. `before` are the readings of the files that stand before it."""
 
-    def __init__(self, text: str, before: Sequence["Reading"] = (), source: str = ""):
+    def __init__(self, text: str, before: Sequence["Reading"] = (), source: str = "", kept: Kept | None = None):
         self.source = source
-        self.every = split(text)
-        self.tokens = [token for token in self.every if token.kind is not Kind.COMMENT]
-        self.names: list[Name] = []
-        self.fields: dict[str, Name] = {}
-        self.types: dict[str, Name] = {}
-        self.functions: dict[str, Name] = {}
-        self.of_token: dict[int, Name] = {}
-        self.unknown: list[Token] = []
-        self.holes: list[Hole] = []
-        self.open_lets: list[tuple[Declaration, Token]] = []
-        self.units: set[int] = set()
-        self.length = len(text)
+        kept = kept or Kept()
+        self._rows = kept.rows(text)
+        self._row_starts = [0, *accumulate(len(line) + 1 for line in text.split("\n"))][:-1]
+        begun = int(text.startswith(MARK))
+        starts = [self._row_starts[row] + self._rows[row].tokens[at].start for row, at in beginnings(self._rows)]
+        # The comments before the first declaration are a piece as well.
+        self._bases = [begun, *starts]
+        ends = [*starts, len(text)]
+        self._pieces = kept.pieces([text[start:end] for start, end in zip(self._bases, ends)],
+                                   lambda at: self._tokens_of(self._bases[at], ends[at]))
+        self.head = Declaration(self._pieces[0], begun, -1, self)
+        self.declarations = [Declaration(piece, start, at, self)
+                             for at, (piece, start) in enumerate(zip(self._pieces[1:], starts))]
+        self.known: dict[Space, dict[str, Name]] = {space: {} for space in SPACES}
         for earlier in before:
-            self._know(earlier)
-        self.declarations = [self._declaration(tokens) for tokens in self._cut(text)]
+            self._know(earlier.declarations)
+        self._know(self.declarations)
 
-    @cached_property
-    def starts(self) -> list[int]:
-        """Where each token begins."""
-        return [token.start for token in self.tokens]
+    def _know(self, declarations: list[Declaration]) -> None:
+        """Knows what is declared here. The first declaration of a name stays."""
+        for made in declarations:
+            for space, bound in made.piece.declared:
+                if bound.text not in self.known[space]:
+                    self.known[space][bound.text] = Name(bound, made, self)
 
-    def _cut(self, text: str) -> list[list[Token]]:
-        """The tokens of each declaration. What stands before the first is one without a name."""
-        starts = [at for at, token in enumerate(self.tokens) if token.text in STARTS and self._begins(text, at)]
-        if self.tokens and starts[:1] != [0]:
-            starts.insert(0, 0)
-        return [self.tokens[start:end] for start, end in zip(starts, [*starts[1:], len(self.tokens)])]
+    @property
+    def types(self) -> dict[str, Name]:
+        """The base measures, abbreviations and records, those of files before the text among them."""
+        return self.known["type"]
 
-    def _begins(self, text: str, at: int) -> bool:
-        """Whether a declaration begins with this token."""
-        word, before = self.tokens[at].text, self.tokens[at - 1].text if at > 0 else ""
-        if word == "[<":
-            return self._follows(at, "type")
-        if word == "type":
-            return before != "]"
-        return before not in BEFORE_EXPRESSION or self._is_cut_off(text, at)
+    @property
+    def functions(self) -> dict[str, Name]:
+        return self.known["function"]
 
-    def _is_cut_off(self, text: str, at: int) -> bool:
-        """Whether a `let` at the beginning of a line has no `in`, so that an expression is missing before it."""
-        start = self.tokens[at].start
-        if start > 0 and text[start - 1] != "\n":
-            return False
-        waiting = 0
-        for token in self.tokens[at:]:
-            waiting += (token.text == "let") - (token.text == "in")
-            if waiting == 0 or token.text in ("type", "[<"):
-                return waiting > 0
-        return True
-
-    def _follows(self, at: int, word: str) -> bool:
-        """Whether the attribute that begins here stands before this word, and in no list of unit parameters."""
-        return any(token.text == word for token in self.tokens[at + 1:at + 5]) and not (
-            at > 0 and self.tokens[at - 1].text in ("<", ","))
-
-    def _know(self, earlier: "Reading") -> None:
-        """Knows what a file that stands before this text declares. Its names have no uses here yet."""
-        for name in earlier.names:
-            space = self._space(name.sort)
-            if space is not None and name.declaration.source == earlier.source:
-                space.setdefault(name.text, replace(name, known_from=0, known_to=self.length, uses=[]))
-
-    def _space(self, sort: Sort) -> dict[str, Name] | None:
-        """The space of names that stand for the whole text."""
-        if sort.is_type:
-            return self.types
-        return {Sort.FUNCTION: self.functions, Sort.FIELD: self.fields}.get(sort)
+    @property
+    def fields(self) -> dict[str, Name]:
+        return self.known["field"]
 
     @property
     def measures(self) -> list[Name]:
-        """The base measures and abbreviations in order, those of files before the text among them."""
+        """The base measures and abbreviations in order."""
         return [name for name in self.types.values() if name.sort.is_measure]
+
+    # ---- tokens
+
+    def _tokens_of(self, start: int, end: int) -> list[Token]:
+        """The tokens from one offset up to another, comments among them, counted from the first offset."""
+        found: list[Token] = []
+        for row in self._rows_in(start, end):
+            found += moved(self._rows[row].every, self._row_starts[row] - start)
+        return [token for token in found if 0 <= token.start < end - start]
+
+    def _rows_in(self, start: int, end: int) -> range:
+        """The lines between two offsets, also in part."""
+        return range(max(bisect_right(self._row_starts, start) - 1, 0), bisect_left(self._row_starts, end))
+
+    def every(self, start: int, end: int) -> list[Token]:
+        """The tokens that stand between two offsets, also in part, comments among them."""
+        found: list[Token] = []
+        for row in self._rows_in(start, end):
+            found += moved(self._rows[row].every, self._row_starts[row])
+        return [token for token in found if token.start < end and start < token.end]
+
+    def tokens(self, start: int, end: int) -> list[Token]:
+        """The tokens that stand between two offsets, also in part."""
+        return [token for token in self.every(start, end) if token.kind is not Kind.COMMENT]
+
+    @property
+    def comments(self) -> list[Token]:
+        """The comments of the text in order."""
+        return [row.every[-1].moved(base) for row, base in zip(self._rows, self._row_starts)
+                if len(row.every) > len(row.tokens)]
+
+    def is_in_comment(self, offset: int) -> bool:
+        """Whether a comment begins before an offset and goes on to it or further."""
+        row = bisect_right(self._row_starts, offset) - 1
+        at = offset - self._row_starts[row]
+        return any(token.kind is Kind.COMMENT and token.start < at <= token.end for token in self._rows[row].every)
 
     def token_at(self, offset: int) -> Token | None:
         """The token that holds the character at an offset; otherwise the name, number or word that ends there."""
-        at = bisect_right(self.starts, offset) - 1
-        if at >= 0 and offset < self.tokens[at].end:
-            if self.tokens[at].kind is Kind.SIGN and at > 0 and self.tokens[at - 1].end == offset:
-                before = self.tokens[at - 1]
-                return before if before.kind in (Kind.NAME, Kind.VARIABLE) else self.tokens[at]
-            return self.tokens[at]
-        if at >= 0 and self.tokens[at].end == offset and self.tokens[at].kind is not Kind.SIGN:
-            return self.tokens[at]
-        return None
-
-    def index_at(self, offset: int) -> int:
-        """The number of the last token that begins at an offset or before it; -1 if none does."""
-        return bisect_right(self.starts, offset) - 1
+        found = self.tokens(offset - 1, offset + 1)
+        if found and found[-1].start <= offset < found[-1].end:
+            before = found[-2] if len(found) > 1 else None
+            if found[-1].kind is Kind.SIGN and before and before.kind in (Kind.NAME, Kind.VARIABLE):
+                return before
+            return found[-1]
+        return found[-1] if found and found[-1].kind is not Kind.SIGN else None
 
     def declaration_at(self, offset: int) -> Declaration:
         """The declaration that holds an offset; before the first one it is the first."""
-        at = bisect_right(self._first, offset) - 1
-        return self.declarations[max(at, 0)]
+        return self.declarations[max(bisect_right(self._bases, offset, 1) - 2, 0)]
 
-    @cached_property
-    def _first(self) -> list[int]:
-        return [declaration.start for declaration in self.declarations]
+    def declarations_in(self, start: int, end: int) -> list[Declaration]:
+        """The declarations that stand between two offsets, also in part, with what follows them."""
+        first = bisect_right(self._bases, start, 1) - 2
+        return [made for made in self.declarations[max(first, 0):] if made.start < end]
 
     # ---- names
 
-    def declare(self, name: Name) -> Name:
-        """Takes down a name that is declared."""
-        self.names.append(name)
-        self.of_token[name.token.start] = name
-        return name
-
-    def use(self, name: Name | None, token: Token) -> None:
-        """Takes down a place where a name is used, or that it is none which is known."""
-        if name is None:
-            self.unknown.append(token)
-        else:
-            name.uses.append(token)
-            self.of_token[token.start] = name
-
-    # ---- declarations
-
-    def _declaration(self, tokens: list[Token]) -> Declaration:
-        made = Declaration(tokens, self.source)
-        cursor = Cursor(tokens)
-        if cursor.take("[<"):
-            cursor.skip_past("]")
-            cursor.take("type")
-            self._measure(made, cursor)
-        elif cursor.take("type"):
-            self._record(made, cursor)
-        elif cursor.take("let"):
-            self._function(made, cursor)
-        else:
-            Body(self, made, cursor, []).read()
-        return made
-
-    def _head(self, made: Declaration, cursor: Cursor, sort: Sort) -> Name | None:
-        """The name of a declaration."""
-        made.sort = sort
-        token = cursor.take_kind(Kind.NAME)
-        if token is None:
+    def name_of(self, token: Token) -> Name | None:
+        """The name that a token declares or uses."""
+        if not self.declarations:
             return None
-        made.name = token
-        return self.declare(Name(sort, token, made.end, self.length, made))
+        made = self.declaration_at(token.start)
+        found = made.piece.of_token.get(token.start - made.start)
+        if isinstance(found, Bound):
+            return next(name for name in made.names if name.bound is found)
+        return self.resolved(made, found, token.text) if found else None
 
-    def _measure(self, made: Declaration, cursor: Cursor) -> None:
-        name = self._head(made, cursor, Sort.MEASURE)
-        if cursor.at("="):
-            made.equals, made.sort = cursor.next(), Sort.ABBREVIATION
-            if name:
-                name.sort = Sort.ABBREVIATION
-            self.unit(cursor.rest(), made, {})
-        if name:
-            self.types.setdefault(name.text, name)
+    def resolved(self, made: Declaration, space: Space, text: str) -> Name | None:
+        """The name of the whole text that a declaration means; None if none is declared before it."""
+        name = self.known[space].get(text)
+        if name is None or not name.is_of_text or name.declaration.number < made.number:
+            return name
+        return name if name.declaration is made and made.piece.is_recursive else None
 
-    def _record(self, made: Declaration, cursor: Cursor) -> None:
-        name = self._head(made, cursor, Sort.RECORD)
-        variables = self._parameters_of_units(made, cursor)
-        if cursor.at("="):
-            made.equals = cursor.next()
-        cursor.take("{")
-        while not cursor.ended and not cursor.at("}"):
-            token = cursor.take_kind(Kind.NAME)
-            if token is None or not cursor.take(":"):
-                cursor.skip_past(";")
-                continue
-            noted = annotation(cursor.until({";", "}"}))
-            field = Name(Sort.FIELD, token, made.end, self.length, made, noted)
-            made.members.append(self.declare(field))
-            self.fields.setdefault(field.text, field)
-            if noted:
-                self.type(noted.tokens, made, variables)
-            cursor.take(";")
-        if name:
-            self.types.setdefault(name.text, name)
+    def uses(self, name: Name) -> list[Token]:
+        """The places at which a name is used."""
+        space = name.sort.space
+        if space is None:
+            return moved(name.bound.uses, name.declaration.start)
+        first = self.known[space].get(name.text)
+        if first is None or first.bound is not name.bound or first.declaration is not name.declaration:
+            return []
+        found: list[Token] = []
+        for made in self.declarations[name.declaration.number if name.is_of_text else 0:]:
+            used = made.piece.used.get((space, name.text))
+            if used and self.resolved(made, space, name.text):
+                found += moved(used, made.start)
+        return found
 
-    def _function(self, made: Declaration, cursor: Cursor) -> None:
-        recursive = cursor.take("rec") is not None
-        name = self._head(made, cursor, Sort.FUNCTION)
-        variables = self._parameters_of_units(made, cursor)
-        scope: list[Name] = []
-        while cursor.at("("):
-            cursor.next()
-            self._parameter(made, cursor, variables, scope)
-        if cursor.take(":"):
-            made.result = annotation(cursor.until({"="}))
-            if made.result:
-                self.type(made.result.tokens, made, variables)
-        if cursor.at("="):
-            made.equals = cursor.next()
-        if name:
-            name.known_from = name.token.end if recursive else made.end
-            if recursive:
-                self.functions.setdefault(name.text, name)
-        for parameter in scope:
-            parameter.known_from = made.head_end
-        Body(self, made, cursor, scope, variables).read()
-        if name:
-            self.functions.setdefault(name.text, name)
+    @cached_property
+    def names(self) -> list[Name]:
+        """All names that the text declares."""
+        return [name for made in self.declarations for name in made.names]
 
-    def _parameter(self, made: Declaration, cursor: Cursor, variables: dict[str, Name], scope: list[Name]) -> None:
-        binder = cursor.take_kind(Kind.NAME) or cursor.take_kind(Kind.HOLE)
-        noted = annotation(cursor.until_closed()) if cursor.take(":") else None
-        cursor.skip_past(")")
-        if binder is None:
-            return
-        made.parameters.append(Parameter(binder, noted))
-        if noted:
-            self.type(noted.tokens, made, variables)
-        if binder.kind is Kind.NAME:
-            scope.append(self.declare(Name(Sort.PARAMETER, binder, made.end, made.end, made, noted)))
-
-    def _parameters_of_units(self, made: Declaration, cursor: Cursor) -> dict[str, Name]:
-        """The unit parameters between `<` and `>`. A variable that stands twice keeps its first place."""
-        variables: dict[str, Name] = {}
-        if not cursor.take("<"):
-            return variables
-        while cursor.take("[<"):
-            cursor.skip_past("]")
-            token = cursor.take_kind(Kind.VARIABLE)
-            if token and token.text not in variables:
-                variables[token.text] = self.declare(Name(Sort.UNIT, token, made.start, made.end, made))
-                variables[token.text].is_parameter_of_units = True
-            elif token:
-                self.use(variables[token.text], token)
-            cursor.take(",")
-        cursor.take(">")
-        return variables
-
-    # ---- types and units
-
-    def type(self, tokens: list[Token], made: Declaration, variables: dict[str, Name]) -> None:
-        """The names of a type: records outside of `<` and `>`, and units inside."""
-        depth = 0
-        for token in tokens:
-            depth += (token.text == "<") - (token.text == ">")
-            if depth > 0:
-                self.unit([token], made, variables)
-            elif token.kind is Kind.NAME:
-                self.use(self.types.get(token.text), token)
-
-    def unit(self, tokens: list[Token], made: Declaration, variables: dict[str, Name]) -> None:
-        """The names and variables of a unit."""
-        for token in tokens:
-            self.units.add(token.start)
-            if token.kind is Kind.NAME:
-                self.use(self.types.get(token.text), token)
-            elif token.kind is Kind.VARIABLE:
-                if token.text in variables:
-                    self.use(variables[token.text], token)
-                elif made.sort is Sort.FUNCTION:
-                    variables[token.text] = self.declare(Name(Sort.UNIT, token, made.start, made.end, made))
-                else:
-                    self.unknown.append(token)
+    @property
+    def unknown(self) -> list[Token]:
+        """The places of names that are declared nowhere before."""
+        found: list[Token] = []
+        for made in self.declarations:
+            found += moved(made.piece.unknown, made.start)
+            for (space, text), used in made.piece.used.items():
+                found += [] if self.resolved(made, space, text) else moved(used, made.start)
+        return sorted(found, key=lambda token: token.start)

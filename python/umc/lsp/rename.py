@@ -5,8 +5,9 @@ from concurrent.futures import ThreadPoolExecutor
 
 from umc import reports
 from umc.lsp.documents import Snapshot
-from umc.lsp.names import Name, Sort
+from umc.lsp.names import Sort
 from umc.lsp.navigation import here, name_at
+from umc.lsp.placed import Name
 from umc.lsp.positions import Json
 from umc.lsp.refused import Refused
 from umc.lsp.tokens import Kind, Token, only
@@ -31,7 +32,7 @@ def prepare(snapshot: Snapshot, params: Json) -> Json | None:
     if not found:
         return None
     name, token = found
-    _check_own(snapshot, name)
+    _check_own(name)
     return {"range": snapshot.range(token.start, token.end), "placeholder": token.text}
 
 
@@ -41,7 +42,7 @@ def rename(snapshot: Snapshot, params: Json) -> Json | None:
     if not found:
         return None
     name, new = found[0], params["newName"]
-    _check_own(snapshot, name)
+    _check_own(name)
     if name.sort is Sort.UNIT and not new.startswith("'"):
         new = "'" + new
     if new == name.text:
@@ -51,8 +52,8 @@ def rename(snapshot: Snapshot, params: Json) -> Json | None:
     return {"changes": {snapshot.uri: edits}}
 
 
-def _check_own(snapshot: Snapshot, name: Name) -> None:
-    if name.declaration.source != snapshot.uri:
+def _check_own(name: Name) -> None:
+    if not name.is_of_text:
         raise Refused(f"{name.text} is declared in another file")
 
 

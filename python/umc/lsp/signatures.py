@@ -4,7 +4,8 @@ from dataclasses import dataclass
 from umc.lsp import facts
 from umc.lsp.cursor import CLOSING, OPENING
 from umc.lsp.documents import Snapshot
-from umc.lsp.names import Name, Sort
+from umc.lsp.names import Sort
+from umc.lsp.placed import Declaration, Name
 from umc.lsp.positions import Json, units
 from umc.lsp.tokens import Kind, Token
 
@@ -41,7 +42,7 @@ def signature(snapshot: Snapshot, name: Name) -> tuple[str, list[list[int]]]:
     label, parts = name.text, []
     for at, parameter in enumerate(made.parameters):
         kind = scheme.parameters[at] if scheme and at < len(scheme.parameters) else (
-            facts.written(snapshot, parameter.annotation.tokens, made.source) if parameter.annotation else "?")
+            facts.written(parameter.annotation.tokens) if parameter.annotation else "?")
         part = f"({parameter.binder.text}: {kind})"
         parts.append([units(label) + 1, units(label) + 1 + units(part)])
         label += " " + part
@@ -50,24 +51,27 @@ def signature(snapshot: Snapshot, name: Name) -> tuple[str, list[list[int]]]:
 
 def call_at(snapshot: Snapshot, offset: int) -> Call | None:
     """The innermost call whose arguments are written at an offset."""
-    tokens = snapshot.reading.tokens
-    end = inside = snapshot.reading.index_at(offset - 1) + 1
+    if not snapshot.reading.declarations:
+        return None
+    made = snapshot.reading.declaration_at(offset - 1)
+    end = inside = made.index_at(offset - 1) + 1
     while True:
-        call = _call(snapshot, tokens, end, inside, offset)
-        bracket = _opening(tokens, end)
+        call = _call(made, end, inside, offset)
+        bracket = _opening(made.tokens, end)
         if call or bracket is None:
             return call
         # The bracket that is open here may be an argument itself.
-        end, inside, offset = bracket, bracket + 1, tokens[bracket].end
+        end, inside, offset = bracket, bracket + 1, made.tokens[bracket].end
 
 
-def _call(snapshot: Snapshot, tokens: list[Token], end: int, inside: int, offset: int) -> Call | None:
+def _call(made: Declaration, end: int, inside: int, offset: int) -> Call | None:
     """The call that goes up to the token with number `end`, if the offset is in its arguments, up to `inside`."""
-    start = _segment(snapshot, tokens, end)
-    name = snapshot.reading.of_token.get(tokens[start].start) if start < end else None
-    if name is None or name.sort is not Sort.FUNCTION or name.token is tokens[start] or offset <= tokens[start].end:
+    start = _segment(made, end)
+    called = made.tokens[start] if start < end else None
+    name = made.reading.name_of(called) if called else None
+    if called is None or name is None or name.sort is not Sort.FUNCTION or made.name == called or offset <= called.end:
         return None
-    return Call(name, _argument(snapshot, tokens[start + 1:inside], offset))
+    return Call(name, _argument(made, made.tokens[start + 1:inside], offset))
 
 
 def _opening(tokens: list[Token], end: int) -> int | None:
@@ -80,13 +84,12 @@ def _opening(tokens: list[Token], end: int) -> int | None:
     return None
 
 
-def _segment(snapshot: Snapshot, tokens: list[Token], end: int) -> int:
+def _segment(made: Declaration, end: int) -> int:
     """The number of the first token after the last sign or word before, outside of brackets."""
-    in_units = snapshot.reading.units
     depth = 0
     for at in reversed(range(end)):
-        token = tokens[at]
-        if token.start in in_units:
+        token = made.tokens[at]
+        if made.is_in_unit(token):
             continue
         if token.text in CLOSING:
             depth += 1
@@ -106,14 +109,13 @@ def _ends(token: Token) -> bool:
     return token.kind is Kind.SIGN and token.text != "."
 
 
-def _argument(snapshot: Snapshot, tokens: list[Token], offset: int) -> int:
+def _argument(made: Declaration, tokens: list[Token], offset: int) -> int:
     """How many arguments end before an offset."""
-    in_units = snapshot.reading.units
     count = depth = 0
     after_point = False
     last = 0
     for token in tokens:
-        begins = depth == 0 and token.text != "." and not after_point and token.start not in in_units and (
+        begins = depth == 0 and token.text != "." and not after_point and not made.is_in_unit(token) and (
             token.text not in CLOSING)
         count += begins
         depth += (token.text in OPENING) - (token.text in CLOSING)

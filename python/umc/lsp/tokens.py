@@ -1,9 +1,13 @@
-"""A split of a text into tokens, comments among them. It never fails: what begins no token is a token of its own."""
+"""A split of a text into tokens, comments among them. It never fails: what begins no token is a token of its own.
+
+No token goes on in the next line, so that a line has the same tokens in every text, except after the byte order mark.
+"""
 import re
 from enum import Enum
 from typing import NamedTuple
 
 WORDS = frozenset("let rec in if then else match with type true false not num bool list Measure pown".split())
+MARK = "\ufeff"
 LETTERS = r"A-Za-z_\u0080-\U0010ffff"
 WIDE = r"\u0080-\U0010ffff"
 TOKEN = re.compile(rf"""(?P<space>[ \t\r\n]+)
@@ -40,14 +44,28 @@ class Token(NamedTuple):
     start: int
     end: int
 
+    def moved(self, by: int) -> "Token":
+        """The token with the offsets that it has if so many characters stand before it."""
+        return Token(self.kind, self.text, self.start + by, self.end + by)
+
 
 def split(text: str) -> list[Token]:
     """The tokens of a text in order, with its comments."""
+    return split_after(text, text.startswith(MARK))
+
+
+def split_after(text: str, count: int) -> list[Token]:
+    """The tokens after so many characters of a text, of which a byte order mark is a token as well."""
     found: list[Token] = []
-    at: int | None = 1 if text.startswith("\ufeff") else 0
+    at: int | None = count
     while at is not None:
         at = _split_from(text, at, found)
     return found
+
+
+def moved(tokens: list[Token], by: int) -> list[Token]:
+    """Tokens with the offsets that they have if so many characters stand before them."""
+    return [Token(kind, text, start + by, end + by) for kind, text, start, end in tokens]
 
 
 def first(text: str, at: int) -> Token | None:
