@@ -122,5 +122,11 @@ def test_a_text_that_is_cut_off() -> None:
     assert reading.unknown == []
 
 
+def test_a_local_let_that_is_cut_off() -> None:
+    """It is none of the text if it doesn't stand at the beginning of a line."""
+    reading = Reading("let f = let y = 1\nlet g = 2\n")
+    assert [declaration.name.text for declaration in reading.declarations if declaration.name] == ["f", "g"]
+
+
 def test_samples_are_found() -> None:
     assert len(FILES) >= 9 and all(isinstance(file, Path) for file in FILES)
