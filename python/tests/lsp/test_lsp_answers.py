@@ -185,6 +185,16 @@ def test_words_are_those_that_the_program_expects(client: Client, more: str, wan
     assert [name for name in unwanted if name in names] == []
 
 
+@pytest.mark.needs("explain")
+@pytest.mark.parametrize("more", ["let wrong (x num) = x\nlet f (x: num) = x + §",
+                                  "let wrong = if true\nlet f (x: num) = x + §",
+                                  "let f (x: num) = if x + (x num) then x + §"])
+def test_a_fault_of_form_before_takes_no_names_away(client: Client, more: str) -> None:
+    text, place = written(client.open(BODY), more)
+    names = labels(text.client.request("textDocument/completion", {**text.identity, "position": place}))
+    assert {"x", "half", "square"} <= set(names)
+
+
 # ---- signature help
 
 @pytest.mark.parametrize("more, label, argument", [

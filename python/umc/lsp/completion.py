@@ -8,7 +8,7 @@ from umc.lsp.documents import Snapshot
 from umc.lsp.hover import of_name
 from umc.lsp.names import Sort
 from umc.lsp.placed import Declaration, Name
-from umc.lsp.positions import Json
+from umc.lsp.positions import Json, Lines
 from umc.lsp.reading import Reading
 from umc.lsp.tokens import WORDS, Kind, Token
 
@@ -45,7 +45,7 @@ def completion(snapshot: Snapshot, params: Json) -> Json | None:
     if place.last() == "." and len(place.before) > 1:
         items = [_item(snapshot, known, name, place, "0") for name in _fields(snapshot, known, place)]
     else:
-        expected = words_at(snapshot, place.start)
+        expected = words_at(snapshot, place)
         names = [] if expected and not {"NAME", "VARIABLE"} & set(expected) else names_at(snapshot, place)
         items = [_item(snapshot, known, name, place, str(at and 1)) for at, name in enumerate(names)]
         items += [_word(snapshot, word, place) for word in _words(expected, place)]
@@ -142,18 +142,23 @@ def _fields(snapshot: Snapshot, known: Known, place: Place) -> list[Name]:
 
 # ---- words
 
-def words_at(snapshot: Snapshot, start: int) -> list[str] | None:
-    """What the program says could stand here; None if it doesn't tell."""
+def words_at(snapshot: Snapshot, place: Place) -> list[str] | None:
+    """What the program says could stand here; None if it doesn't tell.
+
+    It is asked about the declaration up to here by itself, so that a fault of form in another one doesn't matter.
+    """
     analysis = snapshot.analysis
     if not analysis.program.has("explain"):
         return None
-    for text in (snapshot.text[:start], snapshot.text[:start] + NO_CONTINUATION):
-        answer = analysis.ask(["explain"], text)
+    own = snapshot.text[place.before[0].start if place.before else place.start:place.start]
+    for text in (own, own + NO_CONTINUATION):
+        answer = analysis.ask_alone(["explain"], text)
         first, *lines = answer.output.decode("utf-8", "replace").split("\n")
         report = reports.parse(first)
         if report and report.status == 5:
-            found = next((line for line in lines if line.startswith(EXPECTED)), "")
-            return found.removeprefix(EXPECTED).split()
+            is_here = Lines(text).at(report.line or 1, report.column or 1) >= len(own)
+            found = next((line for line in lines if line.startswith(EXPECTED)), "") if is_here else ""
+            return found.removeprefix(EXPECTED).split() or None
     return None
 
 

@@ -16,6 +16,8 @@ SPACES: tuple[Space, ...] = ("type", "function", "field")
 class Sort(Enum):
     """What a name names."""
 
+    __hash__ = object.__hash__  # that of Enum is slow
+
     MEASURE = "base measure"
     ABBREVIATION = "abbreviation"
     RECORD = "record"

@@ -28,6 +28,7 @@ class Lines:
             self._ends.append(found.start())
             self._starts.append(found.end())
         self._ends.append(len(text))
+        self._is_ascii = text.isascii()
         self._feeds = [0, *(at + 1 for at, sign in enumerate(text) if sign == "\n")] if "\r" in text else self._starts
 
     def __len__(self) -> int:
@@ -48,7 +49,8 @@ class Lines:
     def place(self, offset: int) -> tuple[int, int]:
         """The line of an offset and its column, as the protocol counts them."""
         line = bisect_right(self._starts, offset) - 1
-        return line, units(self.text[self._starts[line]:offset])
+        start = self._starts[line]
+        return line, offset - start if self._is_ascii else units(self.text[start:offset])
 
     def position(self, offset: int) -> Json:
         """The position of an offset."""

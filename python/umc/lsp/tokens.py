@@ -23,6 +23,8 @@ TOKEN = re.compile(rf"""(?P<space>[ \t\r\n]+)
 class Kind(Enum):
     """What a token is."""
 
+    __hash__ = object.__hash__  # that of Enum is slow
+
     NAME = "name"
     VARIABLE = "variable"
     NUMBER = "number"
