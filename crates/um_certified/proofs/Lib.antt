@@ -1,0 +1,5 @@
+mod Instantiated
+mod Products
+mod MovedTypes
+mod Rigid
+pub mod Certified

@@ -1,0 +1,2 @@
+-- What a reader must trust: the laws.
+pub mod Laws
