@@ -1,7 +1,8 @@
 -- The comments of a gap below a line, by their places.
-use Rattle.std.proofs.Common.{◌≡◌, refl, sym, ap, ◌∙◌, ℕ, zero, suc, ◌+◌, ◌-◌, ◌<◌, ◌≤◌, ◌==◌, Bool, true, false, not, List, [], ◌∷◌, ◌++◌, length, take, drop, get_or, append_assoc, eqb-true, arith}
+use Rattle.std.proofs.Common.{◌≡◌, refl, sym, ap, ◌∙◌, ℕ, zero, suc, ◌+◌, ◌-◌, ◌<◌, ◌≤◌, ◌==◌, Bool, true, false, not, List, [], ◌∷◌, ◌++◌, length, take, drop, get_or, append_assoc, eqb-true, Option, Some, None, IfSome, MatchOption, arith}
 use Rattle.std.specs.List.{prefix_len}
-use Rattle.std.specs.Prelude.{slice_range, replicate}
+use Rattle.std.specs.Prelude.{slice_range}
+use Rattle.memchr.specs.Find.{IsFirstByte, is_byte}
 use Rattle.std.proofs.Math.Seq.{take-add}
 use Rattle.std.proofs.lemmas.List.{append-nil, take_all, take_more, take-take, replicate_more, drop_more, drop-drop, drop-take, length-drop, length-take-le, get_or-take, get_or-drop}
 use Rattle.std.proofs.lemmas.List.Sums.{prefix_len_is, prefix_len_passes, prefix_len_stops}
@@ -12,7 +13,7 @@ use Rattle.um_tidy.specs.declared.gap.Above.{Above}
 use Rattle.um_tidy.specs.declared.gap.Above.TheVariants as above
 use Rattle.um_tidy.specs.Gaps.{in_line, lines, trimmed, comment, width_from, indent, spaces, blank_line, comment_line, own_line, below, each_line}
 use Rattle.um_tidy.specs.Placed.{below_blank, front, laid_out, IsNext}
-use Rattle.um_tidy.proofs.Lines.{cut_at, line_and_more}
+use Rattle.um_tidy.proofs.Lines.{other_byte, cut_at, line_and_more}
 use Rattle.um_tidy.proofs.BlankLines.{prefix_past, past_feed}
 use Rattle.um_tidy.proofs.GapsAgain.{width_spaces}
 
@@ -22,12 +23,13 @@ pub spaces_more : (xs : List ℕ) (n d : ℕ) → n < length xs → (get_or xs n
 spaces_more xs n d some here so_far =
     take_more xs n d some ∙ (λ i. so_far i ++ eqb-true (get_or xs n d) 32 here i ∷ []) ∙ replicate_more n 32
 
--- a text made longer by n spaces
-pub spaces_added : (xs ys : List ℕ) (n len size : ℕ) → size ≡ length xs → len ≡ size + n → ys ≡ take len xs ++ replicate (len - size) 32 → ys ≡ xs ++ spaces n
-spaces_added xs ys n len size is all added =
-    added
-    ∙ ap (λ k. k ++ replicate (len - size) 32) (take_all len xs (omega (arith, is, all)))
-    ∙ ap (λ k. xs ++ replicate k 32) (omega (arith, all))
+-- four spaces, and then the others
+pub four_spaces : (text more : List ℕ) (left : ℕ) → 4 ≤ left → more ≡ text ++ (32 ∷ 32 ∷ 32 ∷ 32 ∷ []) → more ++ spaces (left - 4) ≡ text ++ spaces left
+four_spaces text more left some added =
+    let all : suc (suc (suc (suc (left - 4)))) ≡ left = omega (arith, some) in
+    ap (λ xs. xs ++ spaces (left - 4)) added
+    ∙ append_assoc text (32 ∷ 32 ∷ 32 ∷ 32 ∷ []) (spaces (left - 4))
+    ∙ ap (λ n. text ++ spaces n) all
 
 -- ---- parts of a gap
 
@@ -52,6 +54,39 @@ pub part_one : (xs : List ℕ) (a : ℕ) → a < length xs → slice_range xs a 
 part_one xs a some =
     let one : a + 1 - a ≡ 1 = omega arith in
     ap (λ n. take n (drop a xs)) one ∙ ap (take 1) (drop_more xs a 0 some)
+
+-- a line feed in a part, or after it
+module _ (xs : List ℕ) (from to : ℕ) (order : from ≤ to) (fits : to ≤ length xs) where
+  pub near_feed : (len : ℕ) → IsFirstByte (is_byte 10) (slice_range xs from to) (Some len) → prefix_len in_line (drop from xs) ≡ len
+  near_feed len (first, here) =
+      let within = first.high in
+      let size = part_size xs from to fits in
+      let more = length-drop from xs in
+      let less : len < to - from = omega (arith, within, size) in
+      let part = slice_range xs from to in
+      prefix_len_is in_line (drop from xs) len 0 (omega (arith, less, more, fits))
+      (λ k before. ap in_line (sym (get_or-take (to - from) (drop from xs) k 0 (omega (arith, before, less)))) ∙ other_byte (get_or part k 0) (first.before k (omega arith) before))
+      (λ some. ap in_line (sym (get_or-take (to - from) (drop from xs) len 0 less)) ∙ ap not here)
+
+  pub near_none : IsFirstByte (is_byte 10) (slice_range xs from to) None → prefix_len in_line (drop from xs) ≡ (to - from) + prefix_len in_line (drop to xs)
+  near_none none =
+      let size = part_size xs from to fits in
+      let more = length-drop from xs in
+      let place : from + (to - from) ≡ to = omega (arith, order) in
+      let part = slice_range xs from to in
+      prefix_past in_line (drop from xs) (to - from) (omega (arith, more, fits))
+      (λ k less. ap in_line (sym (get_or-take (to - from) (drop from xs) k 0 less)) ∙ other_byte (get_or part k 0) (none k (omega arith) (omega (arith, less, size))))
+      ∙ ap (λ ys. (to - from) + prefix_len in_line ys) (drop-drop (to - from) from xs ∙ ap (λ n. drop n xs) place)
+
+  pub later_feed : prefix_len in_line (drop from xs) ≡ (to - from) + prefix_len in_line (drop to xs) → (r : Option ℕ)
+      → MatchOption r (prefix_len in_line (drop to xs) ≡ length (drop to xs)) (λ at. to + prefix_len in_line (drop to xs) ≡ at)
+      → MatchOption r (prefix_len in_line (drop from xs) ≡ length (drop from xs)) (λ at. from + prefix_len in_line (drop from xs) ≡ at)
+  later_feed past None none = let a = length-drop from xs in let b = length-drop to xs in omega (arith, order, fits, past, none, a, b)
+  later_feed past (Some at) is = omega (arith, order, past, is)
+
+pub later_within : (from to size : ℕ) → from ≤ to → (r : Option ℕ) → IfSome r (λ at. (to ≤ at) × (at < size)) → IfSome r (λ at. (from ≤ at) × (at < size))
+later_within from to size order None h = h
+later_within from to size order (Some at) (after, within) = (omega (arith, order, after), within)
 
 -- what is kept goes on
 pub kept_on : (text xs : List ℕ) (a b c : ℕ) → a ≤ b → b ≤ c → text ++ slice_range xs a c ≡ (text ++ slice_range xs a b) ++ slice_range xs b c
@@ -203,8 +238,8 @@ module _ (gap : List ℕ) (at line start feed : ℕ) (first : at ≤ line) (seco
       ap is_space (ap (λ n. get_or gap n 0) (sym place) ∙ sym (get_or-drop at gap (line + k - at) 0))
       ∙ prefix_len_passes is_space (drop at gap) (line + k - at) 0 (omega (arith, less, space))
 
-  other_byte : is_space (get_or gap start 0) ≡ false
-  other_byte =
+  next_byte : is_space (get_or gap start 0) ≡ false
+  next_byte =
       let size = length-drop at gap in
       ap is_space (ap (λ n. get_or gap n 0) (sym space) ∙ sym (get_or-drop at gap (prefix_len is_space (drop at gap)) 0))
       ∙ prefix_len_stops is_space (drop at gap) 0 (omega (arith, size, space, third, some))
@@ -218,7 +253,7 @@ module _ (gap : List ℕ) (at line start feed : ℕ) (first : at ≤ line) (seco
       stops : start - line < length row → is_space (get_or row (start - line) 0) ≡ false
       stops less =
           let place : line + (start - line) ≡ start = omega (arith, second) in
-          ap is_space (row_byte (start - line) (omega (arith, less, row_size)) ∙ ap (λ n. get_or gap n 0) place) ∙ other_byte
+          ap is_space (row_byte (start - line) (omega (arith, less, row_size)) ∙ ap (λ n. get_or gap n 0) place) ∙ next_byte
 
   wide : indent row ≡ width_from 0 (slice_range gap line start)
   wide = ap (λ k. width_from 0 (take k row)) margin_size ∙ ap (width_from 0) (take-take (start - line) (feed - line) rest (omega (arith, third)))

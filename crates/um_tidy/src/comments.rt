@@ -90,6 +90,9 @@ fn line_start(gap: &[u8], from: usize, to: usize) -> usize
     ensures blank { from < result → get_or gap.now (result - 1) 0 ≡ 10 }
     ensures line { (k : ℕ) → result ≤ k → k < to → in_line (get_or gap.now k 0) ≡ true }
 {
+    if from == to {
+        return from;
+    }
     match memrchr(b'\n', &gap[from..to]) {
         Some(len) => from + len + 1,
         None => from,

@@ -232,14 +232,23 @@ fn push_indentation(
     push_spaces(text, indent(line, margin).max(2))
 }
 
-#[tactic(auto, using(crate::proofs::PlacedComments::spaces_added))]
 pub(crate) fn push_spaces(text: &mut Vec<u8>, n: usize) -> Result<(), AllocError>
     ensures { OnOk result (text.new.items ≡ text.old.items ++ spaces n) }
 {
-    let Some(len) = text.len().checked_add(n) else {
-        return Err(AllocError);
-    };
-    text.resize(len, b' ')?;
+    let mut left = n;
+    while left >= 4 {
+        text.extend_from_slice(b"    ")?;
+        left -= 4;
+    }
+    push_few_spaces(text, left)
+}
+
+fn push_few_spaces(text: &mut Vec<u8>, n: usize) -> Result<(), AllocError>
+    ensures { OnOk result (text.new.items ≡ text.old.items ++ spaces n) }
+{
+    for _ in 0..n {
+        text.push(b' ')?;
+    }
     Ok(())
 }
 
@@ -275,6 +284,34 @@ fn line_len(bytes: &[u8]) -> usize
 
 /// Where the first line feed stands from this place on.
 pub(crate) fn line_feed(bytes: &[u8], from: usize) -> Option<usize>
+    requires { from ≤ length bytes.now }
+    ensures within { IfSome result (λ at. (from ≤ at) × (at < length bytes.now)) }
+    ensures first { MatchOption result
+        (prefix_len in_line (drop from bytes.now) ≡ length (drop from bytes.now))
+        (λ at. from + prefix_len in_line (drop from bytes.now) ≡ at) }
+{
+    if bytes.len() - from < 32 {
+        return later_line_feed(bytes, from);
+    }
+    near_line_feed(bytes, from)
+}
+
+/// The same. Lines are short, so the next 32 bytes come first: a search of a known number of bytes costs less.
+fn near_line_feed(bytes: &[u8], from: usize) -> Option<usize>
+    requires { from + 32 ≤ length bytes.now }
+    ensures within { IfSome result (λ at. (from ≤ at) × (at < length bytes.now)) }
+    ensures first { MatchOption result
+        (prefix_len in_line (drop from bytes.now) ≡ length (drop from bytes.now))
+        (λ at. from + prefix_len in_line (drop from bytes.now) ≡ at) }
+{
+    match memchr(b'\n', &bytes[from..from + 32]) {
+        Some(len) => Some(from + len),
+        None => later_line_feed(bytes, from + 32),
+    }
+}
+
+/// The same, however far it stands.
+fn later_line_feed(bytes: &[u8], from: usize) -> Option<usize>
     requires { from ≤ length bytes.now }
     ensures within { IfSome result (λ at. (from ≤ at) × (at < length bytes.now)) }
     ensures first { MatchOption result
