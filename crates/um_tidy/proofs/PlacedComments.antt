@@ -1,8 +1,7 @@
 -- The comments of a gap below a line, by their places.
-use Rattle.std.proofs.Common.{◌≡◌, refl, sym, ap, ◌∙◌, ℕ, zero, suc, ◌+◌, ◌-◌, ◌<◌, ◌≤◌, ◌==◌, Bool, true, false, not, List, [], ◌∷◌, ◌++◌, length, take, drop, get_or, append_assoc, eqb-true, Option, Some, None, IfSome, MatchOption, arith}
+use Rattle.std.proofs.Common.{◌≡◌, refl, sym, ap, ◌∙◌, ℕ, zero, suc, ◌+◌, ◌-◌, ◌<◌, ◌≤◌, ◌==◌, Bool, true, false, cond, not, List, [], ◌∷◌, ◌++◌, length, take, drop, get_or, append_assoc, eqb-true, Option, Some, None, IfSome, MatchOption, arith}
 use Rattle.std.specs.List.{prefix_len}
 use Rattle.std.specs.Prelude.{slice_range}
-use Rattle.memchr.specs.Find.{IsFirstByte, is_byte}
 use Rattle.std.proofs.Math.Seq.{take-add}
 use Rattle.std.proofs.lemmas.List.{append-nil, take_all, take_more, take-take, replicate_more, drop_more, drop-drop, drop-take, length-drop, length-take-le, get_or-take, get_or-drop}
 use Rattle.std.proofs.lemmas.List.Sums.{prefix_len_is, prefix_len_passes, prefix_len_stops}
@@ -13,7 +12,7 @@ use Rattle.um_tidy.specs.declared.gap.Above.{Above}
 use Rattle.um_tidy.specs.declared.gap.Above.TheVariants as above
 use Rattle.um_tidy.specs.Gaps.{in_line, lines, trimmed, comment, width_from, indent, spaces, blank_line, comment_line, own_line, below, each_line}
 use Rattle.um_tidy.specs.Placed.{below_blank, front, laid_out, IsNext}
-use Rattle.um_tidy.proofs.Lines.{other_byte, cut_at, line_and_more}
+use Rattle.um_tidy.proofs.Lines.{cut_at, line_and_more}
 use Rattle.um_tidy.proofs.BlankLines.{prefix_past, past_feed}
 use Rattle.um_tidy.proofs.GapsAgain.{width_spaces}
 
@@ -55,29 +54,24 @@ part_one xs a some =
     let one : a + 1 - a ≡ 1 = omega arith in
     ap (λ n. take n (drop a xs)) one ∙ ap (take 1) (drop_more xs a 0 some)
 
--- a line feed in a part, or after it
+-- what stands before a line feed, one byte on
+module _ (xs : List ℕ) (from k d : ℕ) (some : from + k < length xs) where
+  here : drop (from + k) xs ≡ get_or xs (from + k) d ∷ drop (from + k + 1) xs
+  here = drop_more xs (from + k) d some
+
+  pub in_line_more : in_line (get_or xs (from + k) d) ≡ true → prefix_len in_line (drop from xs) ≡ k + prefix_len in_line (drop (from + k) xs)
+      → prefix_len in_line (drop from xs) ≡ k + 1 + prefix_len in_line (drop (from + (k + 1)) xs)
+  in_line_more e so_far =
+      let one : prefix_len in_line (drop (from + k) xs) ≡ 1 + prefix_len in_line (drop (from + k + 1) xs) = ap (prefix_len in_line) here ∙ ap (λ b. cond b (1 + prefix_len in_line (drop (from + k + 1) xs)) 0) e in
+      let place : from + k + 1 ≡ from + (k + 1) = omega arith in
+      let same : prefix_len in_line (drop (from + k + 1) xs) ≡ prefix_len in_line (drop (from + (k + 1)) xs) = ap (λ n. prefix_len in_line (drop n xs)) place in
+      omega (arith, so_far, one, same)
+
+  pub in_line_stops : in_line (get_or xs (from + k) d) ≡ false → prefix_len in_line (drop (from + k) xs) ≡ 0
+  in_line_stops e = ap (prefix_len in_line) here ∙ ap (λ b. cond b (1 + prefix_len in_line (drop (from + k + 1) xs)) 0) e
+
+-- the first line feed from a place on, if it stands after another
 module _ (xs : List ℕ) (from to : ℕ) (order : from ≤ to) (fits : to ≤ length xs) where
-  pub near_feed : (len : ℕ) → IsFirstByte (is_byte 10) (slice_range xs from to) (Some len) → prefix_len in_line (drop from xs) ≡ len
-  near_feed len (first, here) =
-      let within = first.high in
-      let size = part_size xs from to fits in
-      let more = length-drop from xs in
-      let less : len < to - from = omega (arith, within, size) in
-      let part = slice_range xs from to in
-      prefix_len_is in_line (drop from xs) len 0 (omega (arith, less, more, fits))
-      (λ k before. ap in_line (sym (get_or-take (to - from) (drop from xs) k 0 (omega (arith, before, less)))) ∙ other_byte (get_or part k 0) (first.before k (omega arith) before))
-      (λ some. ap in_line (sym (get_or-take (to - from) (drop from xs) len 0 less)) ∙ ap not here)
-
-  pub near_none : IsFirstByte (is_byte 10) (slice_range xs from to) None → prefix_len in_line (drop from xs) ≡ (to - from) + prefix_len in_line (drop to xs)
-  near_none none =
-      let size = part_size xs from to fits in
-      let more = length-drop from xs in
-      let place : from + (to - from) ≡ to = omega (arith, order) in
-      let part = slice_range xs from to in
-      prefix_past in_line (drop from xs) (to - from) (omega (arith, more, fits))
-      (λ k less. ap in_line (sym (get_or-take (to - from) (drop from xs) k 0 less)) ∙ other_byte (get_or part k 0) (none k (omega arith) (omega (arith, less, size))))
-      ∙ ap (λ ys. (to - from) + prefix_len in_line ys) (drop-drop (to - from) from xs ∙ ap (λ n. drop n xs) place)
-
   pub later_feed : prefix_len in_line (drop from xs) ≡ (to - from) + prefix_len in_line (drop to xs) → (r : Option ℕ)
       → MatchOption r (prefix_len in_line (drop to xs) ≡ length (drop to xs)) (λ at. to + prefix_len in_line (drop to xs) ≡ at)
       → MatchOption r (prefix_len in_line (drop from xs) ≡ length (drop from xs)) (λ at. from + prefix_len in_line (drop from xs) ≡ at)

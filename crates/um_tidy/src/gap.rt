@@ -296,7 +296,7 @@ pub(crate) fn line_feed(bytes: &[u8], from: usize) -> Option<usize>
     near_line_feed(bytes, from)
 }
 
-/// The same. Lines are short, so the next 32 bytes come first: a search of a known number of bytes costs less.
+/// The same. Most lines are short, so the next bytes are looked at one by one.
 fn near_line_feed(bytes: &[u8], from: usize) -> Option<usize>
     requires { from + 32 ≤ length bytes.now }
     ensures within { IfSome result (λ at. (from ≤ at) × (at < length bytes.now)) }
@@ -304,10 +304,37 @@ fn near_line_feed(bytes: &[u8], from: usize) -> Option<usize>
         (prefix_len in_line (drop from bytes.now) ≡ length (drop from bytes.now))
         (λ at. from + prefix_len in_line (drop from bytes.now) ≡ at) }
 {
-    match memchr(b'\n', &bytes[from..from + 32]) {
-        Some(len) => Some(from + len),
-        None => later_line_feed(bytes, from + 32),
+    let near = near_len(bytes, from);
+    if near < 16 {
+        return Some(from + near);
     }
+    let next = near_len(bytes, from + 16);
+    if next < 16 {
+        return Some(from + 16 + next);
+    }
+    later_line_feed(bytes, from + 32)
+}
+
+/// How many of the next 16 bytes stand before a line feed. The number is fixed, so that the loop is unrolled.
+#[tactic(auto, using(crate::proofs::PlacedComments::in_line_more, crate::proofs::PlacedComments::in_line_stops))]
+fn near_len(bytes: &[u8], from: usize) -> usize
+    requires { from + 16 ≤ length bytes.now }
+    ensures within { result ≤ 16 }
+    ensures passed { prefix_len in_line (drop from bytes.now)
+        ≡ result + prefix_len in_line (drop (from + result) bytes.now) }
+    ensures ended { result < 16 → prefix_len in_line (drop (from + result) bytes.now) ≡ 0 }
+{
+    let mut len = 0;
+    while len < 16 && in_line(bytes[from + len]) {
+        len += 1;
+    }
+    len
+}
+
+fn in_line(byte: u8) -> bool
+    ensures { result ≡ in_line byte }
+{
+    byte != b'\n'
 }
 
 /// The same, however far it stands.
