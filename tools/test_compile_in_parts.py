@@ -67,17 +67,61 @@ define internal void @"nobody's"() {
 """
 
 
+# `even` and `odd` call one another, as `even2` and `odd2` do. `even3` calls `odd`, and `odd3` ends with another number.
+# `main` ends with 1 + 2 + 0 + 4.
+ALIKE = "".join(
+    f"""
+define {kept} i32 @{name}(i32 %a) noinline {{
+  %c = icmp eq i32 %a, 0
+  br i1 %c, label %end, label %on
+on:
+  %b = sub i32 %a, 1
+  %d = call i32 @{other}(i32 %b)
+  ret i32 %d
+end:
+  ret i32 {number}
+}}
+"""
+    for kept, name, other, number in [
+        ("internal", "even", "odd", 1), ("internal", "odd", "even", 0), ("internal", "even2", "odd2", 1),
+        ("internal", "odd2", "even2", 0), ("internal", "even3", "odd", 1), ("internal", "odd3", "even3", 2),
+        ("", "seen", "even", 0),
+    ]
+) + """
+@table = private unnamed_addr constant [2 x ptr] [ptr @even3, ptr @odd3]
+define i32 @main() {
+  %a = call i32 @even(i32 6)
+  %b = call i32 @odd3(i32 0)
+  %c = call i32 @odd2(i32 8)
+  %p = load ptr, ptr @table
+  %d = call i32 %p(i32 2)
+  %e = mul i32 %d, 4
+  %f = add i32 %a, %b
+  %g = add i32 %f, %c
+  %h = add i32 %g, %e
+  ret i32 %h
+}
+"""
+
+
 def clang() -> Path:
     return kit_folder() / "toolchain" / "bin" / "clang"
 
 
 @pytest.mark.parametrize("count", [1, 2, 3, 8])
-def test_parts_make_the_same_program(tmp_path: Path, count: int) -> None:
-    (tmp_path / "module.bc").write_text(MODULE)
+@pytest.mark.parametrize(("module", "status"), [(MODULE, 41 + 41 + 7 + 111 - 1), (ALIKE, 1 + 2 + 0 + 4)])
+def test_parts_make_the_same_program(tmp_path: Path, module: str, status: int, count: int) -> None:
+    (tmp_path / "module.bc").write_text(module)
     words = [*WORDS, str(tmp_path / "module.bc"), "-o", str(tmp_path / "module.o")]
     assert TOOL.compile_parts(str(clang()), words, words[-3], count) == 0
     subprocess.run(["cc", tmp_path / "module.o", "-o", tmp_path / "program"], check=True)
-    assert subprocess.run([tmp_path / "program"]).returncode == 41 + 41 + 7 + 111 - 1
+    assert subprocess.run([tmp_path / "program"]).returncode == status
+
+
+def test_functions_that_do_the_same_are_one() -> None:
+    _, functions = TOOL.functions_of(ALIKE)
+    assert TOOL.same_as(functions) == {"@even2": "@even", "@odd2": "@odd", "@even3": "@even"}
+    assert "@odd2" not in "".join(TOOL.texts(ALIKE, 2)) and "ptr @even, ptr @odd3" in TOOL.texts(ALIKE, 2)[0]
 
 
 def test_each_is_defined_once() -> None:
