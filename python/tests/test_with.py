@@ -1,7 +1,12 @@
 """Several files: texts before a text, with places in their own files."""
+import os
+import shutil
+import subprocess
+import sys
+
 import pytest
 
-from conftest import answer
+from conftest import HOME, answer
 
 MEASURES = "[<Measure>] type m\n[<Measure>] type s"
 SPEED = "let speed (way: num<m>) (time: num<s>) = way / time\n"
@@ -131,6 +136,20 @@ def test_the_library_beside_the_program_goes_first(um, files, tmp_path, script):
         (tmp_path / folder / "motion.um").write_text(folder)
     stub = script("cat; echo")
     assert um("fmt", "--with", "motion", main, UMC=str(stub), UM_PATH=f"{tmp_path}/path").out.startswith("library\n")
+
+
+def test_the_library_beside_an_installed_module_is_found(files, tmp_path):
+    """Wherever it is installed, and whatever program UMC names. UM_PATH goes before it."""
+    _, _, main = files
+    shutil.copytree(HOME / "python/umc", tmp_path / "share/umc/python/umc")
+    for folder in ("share/umc/library", "path"):
+        (tmp_path / folder).mkdir()
+        (tmp_path / folder / "motion.um").write_text(f"let {folder[-4:]} = 1\n{MEASURES}\n{SPEED}")
+    for more, first in [({}, "rary : num"), ({"UM_PATH": f"{tmp_path}/path"}, "path : num")]:
+        done = subprocess.run([sys.executable, "-m", "umc", "types", "--with", "motion", main], text=True,
+                              env={**os.environ, "PYTHONPATH": f"{tmp_path}/share/umc/python", **more},
+                              cwd=tmp_path, capture_output=True)
+        assert (done.stdout.splitlines()[0], done.stderr) == (first, "")
 
 
 def test_standard_input_may_stand_before(um, files):

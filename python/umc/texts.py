@@ -105,7 +105,8 @@ def library_folders(program: Program) -> list[Path]:
     beside = program.path.resolve().parent
     named = [Path(part) for part in os.environ.get("UM_PATH", "").split(os.pathsep) if part]
     checkout = [HOME / "library"] if is_checkout(HOME) else []
-    installed = [beside.parent / "share/umc/library", Path("/usr/local/share/umc/library"),
+    # What is installed with this module stands before it.
+    installed = [HOME / "library", beside.parent / "share/umc/library", Path("/usr/local/share/umc/library"),
                  Path("/usr/share/umc/library")]
     return [beside / "library", *checkout, *named, *installed]
 
@@ -117,7 +118,8 @@ def library_file(name: str, program: Program) -> str:
     folders = library_folders(program)
     for folder in folders:
         if (folder / f"{name}.um").is_file():
-            return os.path.relpath(folder / f"{name}.um") if folder == HOME / "library" else str(folder / f"{name}.um")
+            own = is_checkout(HOME) and folder == HOME / "library"
+            return os.path.relpath(folder / f"{name}.um") if own else str(folder / f"{name}.um")
     raise InputError(f"no file of the library has this name; a file of your own is --with ./{name}.um", name)
 
 
