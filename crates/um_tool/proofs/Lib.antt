@@ -6,6 +6,8 @@ pub mod PrintedSchemes
 pub mod CallsMeant
 pub mod ManyCalls
 pub mod TwinsMeant
+mod SameLines
+pub mod RescaledTypes
 pub mod CallStages
 pub mod ProgramStatuses
 pub mod FirstUntyped

@@ -1,6 +1,7 @@
 -- What answers to `rescale` and `twin` say of the program that the bytes spell.
-use Rattle.std.proofs.Common.{◌≡◌, ℕ, IsTrue, List, map, Option, Result, Ok, Err, Some, None, MatchOption, inl, inr, refl, subst}
+use Rattle.std.proofs.Common.{◌≡◌, ℕ, ◌≤◌, IsTrue, List, length, map, Option, Result, Ok, Err, Some, None, MatchOption, inl, inr, refl, sym, ap, subst, ◌∙◌}
 use Rattle.um_frac.specs.declared.number.Frac.{Frac}
+use Rattle.um_syntax.specs.declared.token.Token.{Token}
 use Rattle.um_tree.specs.ValueTree.{without_units}
 use Rattle.um_tree.specs.ProgramTree.{ProgramTree}
 use Rattle.um_tree.specs.Meaning.{outcome_of_call}
@@ -8,9 +9,13 @@ use Rattle.um_scaling.proofs.ScalingLaw.{scaling_law}
 use Rattle.um_scale.specs.Sizes.{AreSizes, sizes}
 use Rattle.um_scale.specs.RescaledLiterals.{misfit_in, rescaled_program}
 use Rattle.um_scale.specs.RescaledInputs.{rescaled_input}
-use Rattle.um_scale.specs.RescaledText.{IsRescaledText}
+use Rattle.um_scale.specs.RescaledText.{respelled, IsRescaledText}
+use Rattle.um_scale.proofs.RescaledTexts.{texts_are_unique}
 use Rattle.um_scale.proofs.SizeFactors.{sizes_positive}
 use Rattle.um_scale.proofs.Rescaled.{program_rescaled}
+use Rattle.um_rescaled.specs.Laws.{rescaled_numbers, Spells}
+use Rattle.um_unplaced.specs.Programs.{unplaced_program}
+use Rattle.um_unplaced.specs.Laws.{RescaledTextsAreRead as RescaledTextsAreReadAgain}
 use Rattle.um_scale.proofs.RescaledCalls.{all_rescaled, twins_are_scaled, twins_have_free_zeros}
 use Rattle.um_sizes.specs.declared.read.ScalesRefusal.{ScalesRefusal}
 use Rattle.um_sizes.specs.declared.read.ScalesRefusal.TheVariants.{NoBaseUnit, NoMemory}
@@ -18,10 +23,12 @@ use Rattle.um_sizes.specs.BaseSizes.{AreScalesRead}
 use Rattle.um_sizes.proofs.UniqueSizes.{scales_are_positive}
 use Rattle.um_run.specs.Calls.{CallTree, call_values}
 use Rattle.um_run.proofs.CallLaws.{calls_are_typed}
+use Rattle.um_orders.specs.declared.order.Order.TheVariants.{Rescale}
+use Rattle.um_orders.specs.Orders.{order_of}
 use Rattle.um_reports.specs.declared.status.Status.{Status}
 use Rattle.um_reports.specs.declared.status.Status.TheVariants.{Done, Input, ScaleRange}
 use Rattle.um_reports.specs.ScaleRefusals.{IsLiteralReply, IsMisfitReply}
-use Rattle.um_front.specs.Stages.{CheckedTree, IsCheckedText}
+use Rattle.um_front.specs.Stages.{ShapedTree, IsShapedText, CheckedTree, IsCheckedText}
 use Rattle.um_front.proofs.CheckedTexts.{checked_is_known, schemes_are_principal}
 use Rattle.um_front.proofs.StageLaws.{checked_reached}
 use Rattle.um_answers.specs.RescaleAnswer.{LiteralsAnswer, BySizes, IsRescaled, RescaleAnswer}
@@ -32,7 +39,7 @@ use Rattle.um_call_answers.proofs.TwinArguments.{all_fit}
 use Rattle.um_tool.specs.Asked.{rescale_sizes, twin_sizes, called_twice}
 use Rattle.um_tool.specs.Answer.{Answer}
 use Rattle.um_tool.specs.CallLaws.{ends_a_call}
-use Rattle.um_tool.specs.ScaleLaws.{InSizes, RescaledTextsAreRescaled, IsTwinCall, EndedTwinsAreRelated}
+use Rattle.um_tool.specs.ScaleLaws.{InSizes, RescaledTextsAreRescaled, RescaledTextsAreRead, IsTwinCall, EndedTwinsAreRelated}
 use Rattle.um_tool.proofs.CallsMeant.{refuted, late_ends, call_refusal}
 
 -- the program in the sizes that a word states
@@ -49,14 +56,15 @@ in_sizes word bytes c is cs read fit = record {
 
 -- ---- `rescale`
 module _ (word bytes text : List ℕ) where
-  abbrev IsInSizes : Type 0
-  IsInSizes = (s : InSizes word bytes) × IsRescaledText bytes s.other text
+  abbrev pub IsInSizes : Type 0
+  IsInSizes =
+      (s : InSizes word bytes) × (s.other ≡ rescaled_program s.scales s.checked.text.program) × IsRescaledText bytes s.other text
 
   sized_says : (c : CheckedTree) → IsCheckedText bytes c → (cs : List Frac) → AreScalesRead c.text.program.bases word (Ok cs) → LiteralsAnswer cs bytes c.text.program text Done → IsInSizes
   unfolding LiteralsAnswer
   sized_says c is cs read answer = by (misfit_in cs c.text.program.functions) refl answer where
     by : (m : Option ℕ) → misfit_in cs c.text.program.functions ≡ m → MatchOption m (IsRescaledText bytes (rescaled_program cs c.text.program) text × (Done ≡ Done)) (λ at. IsLiteralReply bytes at text Done) → IsInSizes
-    by None fit says = (in_sizes word bytes c is cs read fit, says.0)
+    by None fit says = (in_sizes word bytes c is cs read fit, refl, says.0)
     by (Some at) misfit reply = absurd (cc reply.1)
 
   by_sizes_says : (c : CheckedTree) → IsCheckedText bytes c → (r : Result (List Frac) ScalesRefusal) → AreScalesRead c.text.program.bases word r → BySizes bytes c.text.program r text Done → IsInSizes
@@ -74,11 +82,42 @@ module _ (word bytes text : List ℕ) where
       let r = checked_reached (IsRescaled word bytes) bytes text Done refl answer in
       checked_says r.0 r.1 r.2
 
-pub rescaled_texts_are_rescaled : RescaledTextsAreRescaled
+  pub read_again : RescaledTextsAreReadAgain → (s : InSizes word bytes) → s.other ≡ rescaled_program s.scales s.checked.text.program → IsRescaledText bytes s.other text
+      → (tokens : List Token) × (again : ShapedTree) × Spells text tokens again.raw again.program × (unplaced_program again.program ≡ unplaced_program s.other) × (again.abbreviations ≡ s.checked.text.abbreviations) × (length text ≤ 1048576 → IsShapedText text again)
+  read_again law s same is =
+      let c = s.checked.text in
+      let w = s.spelled.shaped in
+      let tokens = w.written.tokens in
+      let other = rescaled_program s.scales c.program in
+      let new = respelled bytes (rescaled_numbers s.scales c.program) 0 tokens in
+      let spelled : Spells bytes tokens c.raw c.program = record { lexed = w.written.lexed; read = w.written.read.is; resolved = w.resolved } in
+      let out = law bytes tokens c.raw c.program s.scales (scales_are_positive c.program.bases word s.scales s.read) spelled in
+      let own : IsRescaledText bytes other new = (tokens, w.written.lexed.1, refl) in
+      let text_is : text ≡ new = texts_are_unique bytes other text new (subst (λ q. IsRescaledText bytes q text) same is) own in
+      let again : ShapedTree = record { raw = out.1; program = out.2; abbreviations = c.abbreviations } in
+      let spells : Spells text out.0 out.1 out.2 = subst (λ b. Spells b out.0 out.1 out.2) (sym text_is) out.3 in
+      let shaped : length text ≤ 1048576 → IsShapedText text again = λ short. record {
+        written = record { short = short; tokens = out.0; lexed = spells.lexed; read = out.6 w.written.read };
+        resolved = spells.resolved;
+        abbreviated = out.5 ∙ w.abbreviated;
+        faultless = out.7 s.fit w.faultless;
+      } in
+      (out.0, again, spells, out.4 ∙ ap unplaced_program (sym same), refl, shaped)
+
+pub found_sizes : (words : List (List ℕ)) (bytes text : List ℕ) → order_of words ≡ Some Rescale → Answer words bytes text Done → IsInSizes (rescale_sizes words) bytes text
 unfolding Answer
-rescaled_texts_are_rescaled words bytes text ordered answer =
+found_sizes words bytes text ordered answer =
     let given : RescaleAnswer (rescale_sizes words) bytes text Done = rw ordered at answer in
     answered_says (rescale_sizes words) bytes text given
+
+pub rescaled_texts_are_rescaled : RescaledTextsAreRescaled
+rescaled_texts_are_rescaled words bytes text ordered answer = let r = found_sizes words bytes text ordered answer in (r.0, r.2)
+
+pub rescaled_texts_are_read : RescaledTextsAreReadAgain → RescaledTextsAreRead
+rescaled_texts_are_read law words bytes text ordered answer =
+    let r = found_sizes words bytes text ordered answer in
+    let q = read_again (rescale_sizes words) bytes text law r.0 r.1 r.2 in
+    (r.0, q.0, q.1, q.2, q.3, q.4, q.5)
 
 -- ---- `twin`
 

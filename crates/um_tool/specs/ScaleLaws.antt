@@ -1,7 +1,8 @@
 -- What answers to `rescale` and `twin` say, in the subject's words.
 -- Source: the scaling law, and that a number at an open unit is 0, are Kennedy's (1997).
-use Rattle.std.specs.Prelude.{ℕ, ◌≡◌, IsTrue, List, length, map, None, Some, Ok}
+use Rattle.std.specs.Prelude.{ℕ, ◌≡◌, ◌≤◌, IsTrue, List, length, map, None, Some, Ok}
 use Rattle.um_frac.specs.declared.number.Frac.{Frac}
+use Rattle.um_syntax.specs.declared.token.Token.{Token}
 use Rattle.um_tree.specs.ValueTree.{ValueTree, OutcomeTree, value_outcome}
 use Rattle.um_tree.specs.ValueTree.{InputTree, inputs_in_order, without_units}
 use Rattle.um_tree.specs.ProgramTree.{ProgramTree}
@@ -16,17 +17,20 @@ use Rattle.um_scaling.specs.FreeNumbers.{IsFreeZero}
 use Rattle.um_scale.specs.Sizes.{sizes}
 use Rattle.um_scale.specs.RescaledLiterals.{misfit_in}
 use Rattle.um_scale.specs.RescaledText.{IsRescaledText}
+use Rattle.um_rescaled.specs.Laws.{Spells}
+use Rattle.um_unplaced.specs.Programs.{unplaced_program}
 use Rattle.um_sizes.specs.BaseSizes.{AreScalesRead}
 use Rattle.um_orders.specs.declared.order.Order.TheVariants.{Rescale, Twin}
 use Rattle.um_orders.specs.Orders.{order_of}
 use Rattle.um_reports.specs.declared.status.Status.{Status}
 use Rattle.um_reports.specs.declared.status.Status.TheVariants.{Done}
-use Rattle.um_front.specs.Stages.{CheckedTree, IsCheckedText}
+use Rattle.um_front.specs.Stages.{ShapedTree, IsShapedText, CheckedTree, IsCheckedText}
 use Rattle.um_call_answers.specs.AskedCall.{AskedCall}
 use Rattle.um_call_answers.specs.TwinAnswer.{misfit_among, AreOutcomeReplies}
 use Rattle.um_call_answers.specs.OfCall.{IsAskedCall}
 use Rattle.um_tool.specs.Asked.{rescale_sizes, twin_sizes, called_twice}
 use Rattle.um_tool.specs.Answer.{Answer}
+use Rattle.um_tool.specs.Laws.{TypesAnswers}
 use Rattle.um_tool.specs.CallLaws.{ends_a_call}
 
 -- The program that the bytes spell, with the sizes of its base units that a word states, and in these sizes: each of
@@ -46,6 +50,23 @@ RescaledTextsAreRescaled =
     (words : List (List ℕ)) (bytes text : List ℕ) →
     order_of words ≡ Some Rescale → Answer words bytes text Done →
     (s : InSizes (rescale_sizes words) bytes) × IsRescaledText bytes s.other text
+
+-- Read again, this text spells that program but for places, with the same abbreviations; and if it is at most 1,048,576
+-- bytes long, it is within all limits and has its shapes.
+abbrev pub RescaledTextsAreRead : Type 0
+RescaledTextsAreRead =
+    (words : List (List ℕ)) (bytes text : List ℕ) →
+    order_of words ≡ Some Rescale → Answer words bytes text Done →
+    (s : InSizes (rescale_sizes words) bytes) × (tokens : List Token) × (again : ShapedTree)
+    × Spells text tokens again.raw again.program × (unplaced_program again.program ≡ unplaced_program s.other)
+    × (again.abbreviations ≡ s.checked.text.abbreviations) × (length text ≤ 1048576 → IsShapedText text again)
+
+-- So if it isn't longer, `types` answers it with status 0, and with the lines with which it answers the bytes.
+abbrev pub RescaledTextsHaveTheSchemes : Type 0
+RescaledTextsHaveTheSchemes =
+    (words : List (List ℕ)) (bytes text : List ℕ) →
+    order_of words ≡ Some Rescale → Answer words bytes text Done → length text ≤ 1048576 →
+    (lines : List ℕ) × TypesAnswers bytes lines Done × TypesAnswers text lines Done
 
 -- This is a call that has a type, given principal schemes, and its arguments in other sizes are in range. Both outcomes
 -- are those of the meaning, the second in the program in other sizes and on the arguments in other sizes. The second is

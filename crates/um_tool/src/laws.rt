@@ -3,7 +3,8 @@ ghost use Rattle.um_tool.specs.Laws.{PrintedTypesArePrincipalSchemes, UnitsNameT
 ghost use Rattle.um_tool.specs.Laws.{NotGeneralNamesTheFirstUntyped, AnswersAreUnique};
 ghost use Rattle.um_tool.specs.CallLaws.{PrintedCodeIsTheProgramsCode, EndedCallsAreMeant, VerdictsSayWhatTypingsAre};
 ghost use Rattle.um_tool.specs.CallLaws.{CallsAreRuns};
-ghost use Rattle.um_tool.specs.ScaleLaws.{RescaledTextsAreRescaled, EndedTwinsAreRelated};
+ghost use Rattle.um_tool.specs.ScaleLaws.{RescaledTextsAreRescaled, RescaledTextsAreRead, RescaledTextsHaveTheSchemes};
+ghost use Rattle.um_tool.specs.ScaleLaws.{EndedTwinsAreRelated};
 ghost use Rattle.um_tool.specs.ImageLaws.{PrintedImagesAreVerified, PrintedImagesRunAsMeant};
 ghost use Rattle.um_tool.specs.Verdicts.{SignaturesHaveVerdicts};
 ghost use Rattle.um_tool.specs.CertificateLaws.{PrintedCertificatesAreValid, RefusedCertificatesPass, ProofsAreUnique};
@@ -91,10 +92,16 @@ pub fn printed_certificates()
 {}
 
 /// What `rescale` printed with status 0 on some bytes are these bytes with the numbers of a program: that which they
-/// spell, with its literals in the sizes that the word states.
+/// spell, with its literals in the sizes that the word states. Read again, the text spells that program but for
+/// places, and has its shapes if it isn't too long. Then `types` answers it as it answers the bytes.
 pub fn rescaled_texts()
-    ensures { RescaledTextsAreRescaled }
-{}
+    ensures numbers { RescaledTextsAreRescaled }
+    ensures read { RescaledTextsAreRead }
+    ensures types { RescaledTextsHaveTheSchemes }
+{
+    um_unplaced::laws::rescaled_texts();
+    um_same_schemes::laws::rescaled_programs();
+}
 
 /// What `twin` was answered with the status of values, of a trap or of the budget's end are the outcomes of both
 /// meanings at the budget: the second is the first one rescaled at a type of the call, unless one of them overflows.
