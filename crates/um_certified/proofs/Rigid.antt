@@ -1,11 +1,11 @@
 -- If some joint solution has a unit of its own for each unit parameter, each joint solution is one of these after units are
 -- put for variables and unit parameters.
-use Rattle.std.proofs.Common.{◌≡◌, sym, ap, ◌∙◌, inl, ℕ, ◌<◌, ◌≤◌, List, [], ◌∷◌, map, length, subst, arith}
+use Rattle.std.proofs.Common.{◌≡◌, sym, ap, ◌∙◌, inl, ℕ, ◌<◌, ◌≤◌, List, [], ◌∷◌, map, arith}
 use Rattle.std.specs.Prelude.{All}
 use Rattle.std.specs.List.{range_with_len}
 use Rattle.std.proofs.lemmas.List.Elements.{All-nil, All-cons, All-head, All-tail}
 use Rattle.std.proofs.lemmas.List.FromFn.{get_or-map-range_with_len, length-map-range_with_len}
-use Rattle.um_units.specs.declared.Atom.TheVariants.{Base, Var}
+use Rattle.um_units.specs.declared.Atom.TheVariants.{Var}
 use Rattle.um_units.specs.PowerMap.{PowerMap, one, atom, mul, inv, replace, nth}
 use Rattle.um_units.specs.Variables.{VariablesBelow}
 use Rattle.um_units.specs.Solutions.{Solves, IsJointSolution}

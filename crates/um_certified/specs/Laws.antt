@@ -1,6 +1,6 @@
 -- What a valid certificate of a scheme shows, however it was made.
--- Source: Kennedy (1996): the joint solutions of a function's equations are its typings, and a declared unit parameter is
--- a unit of its own in them.
+-- Source: Kennedy (1996): the joint solutions of a function's equations are its typings, and a declared unit parameter
+-- is a unit of its own in them.
 use Rattle.std.specs.Prelude.{◌≡◌, ℕ, ◌≤◌, All, List, length, Some, slice_get}
 use Rattle.um_tree.specs.ProgramTree.{FunctionTree, ProgramTree, SchemeTree}
 use Rattle.um_tree.specs.Scheme.{signature_types, IsPrincipal}
