@@ -6,6 +6,7 @@ pub mod BlankLines
 pub mod Encoded
 pub mod Printed
 pub mod GapsAgain
+pub mod NearFeeds
 pub mod PlacedComments
 pub mod GapComments
 pub mod StandAgain

@@ -1,5 +1,5 @@
 -- The comments of a gap below a line, by their places.
-use Rattle.std.proofs.Common.{◌≡◌, refl, sym, ap, ◌∙◌, ℕ, zero, suc, ◌+◌, ◌-◌, ◌<◌, ◌≤◌, ◌==◌, Bool, true, false, cond, not, List, [], ◌∷◌, ◌++◌, length, take, drop, get_or, append_assoc, eqb-true, Option, Some, None, IfSome, MatchOption, arith}
+use Rattle.std.proofs.Common.{◌≡◌, refl, sym, ap, ◌∙◌, ℕ, zero, suc, ◌+◌, ◌-◌, ◌<◌, ◌≤◌, ◌==◌, Bool, true, false, not, List, [], ◌∷◌, ◌++◌, length, take, drop, get_or, append_assoc, eqb-true, arith}
 use Rattle.std.specs.List.{prefix_len}
 use Rattle.std.specs.Prelude.{slice_range}
 use Rattle.std.proofs.Math.Seq.{take-add}
@@ -53,34 +53,6 @@ pub part_one : (xs : List ℕ) (a : ℕ) → a < length xs → slice_range xs a 
 part_one xs a some =
     let one : a + 1 - a ≡ 1 = omega arith in
     ap (λ n. take n (drop a xs)) one ∙ ap (take 1) (drop_more xs a 0 some)
-
--- what stands before a line feed, one byte on
-module _ (xs : List ℕ) (from k d : ℕ) (some : from + k < length xs) where
-  here : drop (from + k) xs ≡ get_or xs (from + k) d ∷ drop (from + k + 1) xs
-  here = drop_more xs (from + k) d some
-
-  pub in_line_more : in_line (get_or xs (from + k) d) ≡ true → prefix_len in_line (drop from xs) ≡ k + prefix_len in_line (drop (from + k) xs)
-      → prefix_len in_line (drop from xs) ≡ k + 1 + prefix_len in_line (drop (from + (k + 1)) xs)
-  in_line_more e so_far =
-      let one : prefix_len in_line (drop (from + k) xs) ≡ 1 + prefix_len in_line (drop (from + k + 1) xs) = ap (prefix_len in_line) here ∙ ap (λ b. cond b (1 + prefix_len in_line (drop (from + k + 1) xs)) 0) e in
-      let place : from + k + 1 ≡ from + (k + 1) = omega arith in
-      let same : prefix_len in_line (drop (from + k + 1) xs) ≡ prefix_len in_line (drop (from + (k + 1)) xs) = ap (λ n. prefix_len in_line (drop n xs)) place in
-      omega (arith, so_far, one, same)
-
-  pub in_line_stops : in_line (get_or xs (from + k) d) ≡ false → prefix_len in_line (drop (from + k) xs) ≡ 0
-  in_line_stops e = ap (prefix_len in_line) here ∙ ap (λ b. cond b (1 + prefix_len in_line (drop (from + k + 1) xs)) 0) e
-
--- the first line feed from a place on, if it stands after another
-module _ (xs : List ℕ) (from to : ℕ) (order : from ≤ to) (fits : to ≤ length xs) where
-  pub later_feed : prefix_len in_line (drop from xs) ≡ (to - from) + prefix_len in_line (drop to xs) → (r : Option ℕ)
-      → MatchOption r (prefix_len in_line (drop to xs) ≡ length (drop to xs)) (λ at. to + prefix_len in_line (drop to xs) ≡ at)
-      → MatchOption r (prefix_len in_line (drop from xs) ≡ length (drop from xs)) (λ at. from + prefix_len in_line (drop from xs) ≡ at)
-  later_feed past None none = let a = length-drop from xs in let b = length-drop to xs in omega (arith, order, fits, past, none, a, b)
-  later_feed past (Some at) is = omega (arith, order, past, is)
-
-pub later_within : (from to size : ℕ) → from ≤ to → (r : Option ℕ) → IfSome r (λ at. (to ≤ at) × (at < size)) → IfSome r (λ at. (from ≤ at) × (at < size))
-later_within from to size order None h = h
-later_within from to size order (Some at) (after, within) = (omega (arith, order, after), within)
 
 -- what is kept goes on
 pub kept_on : (text xs : List ℕ) (a b c : ℕ) → a ≤ b → b ≤ c → text ++ slice_range xs a c ≡ (text ++ slice_range xs a b) ++ slice_range xs b c

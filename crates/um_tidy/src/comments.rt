@@ -6,7 +6,8 @@ ghost use Rattle.um_tidy.specs.declared.gap.Above.TheVariants.{Line};
 ghost use Rattle.um_tidy.specs.Gaps.{in_line, lines, width_from, blank_line, spaces, each_line};
 ghost use Rattle.um_tidy.specs.Placed.{below_blank, front, laid_out, IsNext};
 
-use crate::gap::{Above, line_feed, push_spaces, space_end, trimmed_len, width};
+use crate::feed::line_feed;
+use crate::gap::{Above, push_spaces, space_end, trimmed_len, width};
 use memchr::memrchr;
 use std::alloc::AllocError;
 

@@ -1,6 +1,6 @@
 // What becomes of the white space and the comments between tokens.
 ghost use Rattle.std.specs.Prelude.{◌≡◌, ◌≤◌, ◌<◌, ◌+◌, ◌++◌, ◌∷◌, [], List, ℕ, cond, length, take, drop};
-ghost use Rattle.std.specs.Prelude.{OnOk, IfOk, IfSome, MatchOption};
+ghost use Rattle.std.specs.Prelude.{OnOk, IfOk};
 ghost use Rattle.std.specs.List.{prefix_len};
 ghost use Rattle.um_syntax.specs.Gap.{is_space};
 ghost use Rattle.um_tidy.specs.declared.gap.Above.{Above};
@@ -9,7 +9,8 @@ ghost use Rattle.um_tidy.specs.Gaps.{past_blank, own_line, below, each_line, ind
 ghost use Rattle.um_tidy.specs.Gaps.{line_end, first_gap, inner_gap, last_gap, only_gap};
 
 use crate::comments::push_comments;
-use memchr::{memchr, memrchr};
+use crate::feed::line_feed;
+use memchr::memrchr;
 use std::alloc::AllocError;
 
 /// What stands above a line.
@@ -279,75 +280,6 @@ fn line_len(bytes: &[u8]) -> usize
     match line_feed(bytes, 0) {
         Some(at) => at,
         None => bytes.len(),
-    }
-}
-
-/// Where the first line feed stands from this place on.
-pub(crate) fn line_feed(bytes: &[u8], from: usize) -> Option<usize>
-    requires { from ≤ length bytes.now }
-    ensures within { IfSome result (λ at. (from ≤ at) × (at < length bytes.now)) }
-    ensures first { MatchOption result
-        (prefix_len in_line (drop from bytes.now) ≡ length (drop from bytes.now))
-        (λ at. from + prefix_len in_line (drop from bytes.now) ≡ at) }
-{
-    if bytes.len() - from < 32 {
-        return later_line_feed(bytes, from);
-    }
-    near_line_feed(bytes, from)
-}
-
-/// The same. Most lines are short, so the next bytes are looked at one by one.
-fn near_line_feed(bytes: &[u8], from: usize) -> Option<usize>
-    requires { from + 32 ≤ length bytes.now }
-    ensures within { IfSome result (λ at. (from ≤ at) × (at < length bytes.now)) }
-    ensures first { MatchOption result
-        (prefix_len in_line (drop from bytes.now) ≡ length (drop from bytes.now))
-        (λ at. from + prefix_len in_line (drop from bytes.now) ≡ at) }
-{
-    let near = near_len(bytes, from);
-    if near < 16 {
-        return Some(from + near);
-    }
-    let next = near_len(bytes, from + 16);
-    if next < 16 {
-        return Some(from + 16 + next);
-    }
-    later_line_feed(bytes, from + 32)
-}
-
-/// How many of the next 16 bytes stand before a line feed. The number is fixed, so that the loop is unrolled.
-#[tactic(auto, using(crate::proofs::PlacedComments::in_line_more, crate::proofs::PlacedComments::in_line_stops))]
-fn near_len(bytes: &[u8], from: usize) -> usize
-    requires { from + 16 ≤ length bytes.now }
-    ensures within { result ≤ 16 }
-    ensures passed { prefix_len in_line (drop from bytes.now)
-        ≡ result + prefix_len in_line (drop (from + result) bytes.now) }
-    ensures ended { result < 16 → prefix_len in_line (drop (from + result) bytes.now) ≡ 0 }
-{
-    let mut len = 0;
-    while len < 16 && in_line(bytes[from + len]) {
-        len += 1;
-    }
-    len
-}
-
-fn in_line(byte: u8) -> bool
-    ensures { result ≡ in_line byte }
-{
-    byte != b'\n'
-}
-
-/// The same, however far it stands.
-fn later_line_feed(bytes: &[u8], from: usize) -> Option<usize>
-    requires { from ≤ length bytes.now }
-    ensures within { IfSome result (λ at. (from ≤ at) × (at < length bytes.now)) }
-    ensures first { MatchOption result
-        (prefix_len in_line (drop from bytes.now) ≡ length (drop from bytes.now))
-        (λ at. from + prefix_len in_line (drop from bytes.now) ≡ at) }
-{
-    match memchr(b'\n', &bytes[from..]) {
-        Some(len) => Some(from + len),
-        None => None,
     }
 }
 

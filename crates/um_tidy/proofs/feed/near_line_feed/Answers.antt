@@ -1,8 +1,8 @@
 use Rattle.std.proofs.Common.{◌≡◌, ◌+◌, ◌-◌, ap, length, drop, arith}
 use Rattle.std.specs.List.{prefix_len}
 use Rattle.um_tidy.specs.Gaps.{in_line}
-use Rattle.um_tidy.proofs.PlacedComments.{later_feed, later_within}
-use Rattle.um_tidy.proofs.gap.near_line_feed.Goals as goal
+use Rattle.um_tidy.proofs.NearFeeds.{later_feed, later_within}
+use Rattle.um_tidy.proofs.feed.near_line_feed.Goals as goal
 
 pub returns-clause-within : goal.returns-clause-within
 returns-clause-within c =

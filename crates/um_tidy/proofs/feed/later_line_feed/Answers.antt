@@ -1,6 +1,6 @@
 use Rattle.std.proofs.Common.{ap, ◌+◌, arith}
 use Rattle.um_tidy.proofs.Lines.{no_feed_after, feed_after, feed_within}
-use Rattle.um_tidy.proofs.gap.later_line_feed.Goals as goal
+use Rattle.um_tidy.proofs.feed.later_line_feed.Goals as goal
 
 pub overflow_add-result : goal.overflow_add-result
 overflow_add-result c = let within = feed_within c.args.bytes.now c.args.from c.in-Some.len c.in-Some.ensures in omega (arith, within)
