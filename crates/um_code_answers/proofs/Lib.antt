@@ -1,0 +1,2 @@
+mod EndsOnce
+pub mod CodeAnswers
