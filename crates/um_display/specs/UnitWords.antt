@@ -11,7 +11,7 @@ use Rattle.um_frac.specs.Fraction.{numerator}
 use Rattle.um_syntax.specs.declared.token.Token.{Token}
 use Rattle.um_syntax.specs.declared.token.Kind.{Kind}
 use Rattle.um_syntax.specs.declared.token.Kind.TheVariants as kind
-use Rattle.um_syntax.specs.declared.vocabulary.Symbol.TheVariants as symbol
+use Rattle.um_vocabulary.specs.declared.vocabulary.Symbol.TheVariants as symbol
 use Rattle.um_syntax.specs.Gap.{is_space}
 use Rattle.um_syntax.specs.Lexing.{HasTokens}
 use Rattle.um_tree.specs.RawTree.{UnitSyntax}

@@ -7,8 +7,8 @@ use Rattle.std.proofs.lemmas.List.Elements.{All-weaker}
 use Rattle.um_syntax.specs.declared.token.Kind.{Kind}
 use Rattle.um_syntax.specs.declared.token.Kind.TheVariants as kind
 use Rattle.um_syntax.specs.declared.token.Token.{Token}
-use Rattle.um_syntax.specs.declared.vocabulary.Keyword.TheVariants as keyword
-use Rattle.um_syntax.specs.declared.vocabulary.Symbol.TheVariants as symbol
+use Rattle.um_vocabulary.specs.declared.vocabulary.Keyword.TheVariants as keyword
+use Rattle.um_vocabulary.specs.declared.vocabulary.Symbol.TheVariants as symbol
 use Rattle.um_syntax.specs.Lexing.{is_power_place, is_caret, is_minus, is_minus_kind}
 use Rattle.um_tree.specs.RawTree.{DeclSyntax}
 use Rattle.um_reader.specs.Texts.{BeginsText, BeginsTextWithin}

@@ -5,7 +5,7 @@ use Rattle.std.specs.List.{All}
 use Rattle.std.proofs.lemmas.List.{take_more}
 use Rattle.std.proofs.lemmas.List.Elements.{All-push}
 use Rattle.um_syntax.specs.declared.token.Kind.TheVariants as kind
-use Rattle.um_syntax.specs.declared.vocabulary.Symbol.{Symbol}
+use Rattle.um_vocabulary.specs.declared.vocabulary.Symbol.{Symbol}
 use Rattle.um_expected.specs.declared.word.Word.{Word}
 use Rattle.um_expected.specs.Expected.{Place, CanStand, AllOperatorsStand, IsExpected, AreChosen}
 use Rattle.um_expected.specs.Words.{operators}

@@ -3,10 +3,10 @@ use Rattle.std.proofs.Common.{◌≢◌, pos, neg_ℤ, ◌<◌, List, [], ◌∷
 use Rattle.um_syntax.specs.declared.token.Token.{Token}
 use Rattle.um_syntax.specs.declared.token.Kind.{Kind}
 use Rattle.um_syntax.specs.declared.token.Kind.TheVariants as kind
-use Rattle.um_syntax.specs.declared.vocabulary.Keyword.{Keyword}
-use Rattle.um_syntax.specs.declared.vocabulary.Keyword.TheVariants as keyword
-use Rattle.um_syntax.specs.declared.vocabulary.Symbol.{Symbol}
-use Rattle.um_syntax.specs.declared.vocabulary.Symbol.TheVariants as symbol
+use Rattle.um_vocabulary.specs.declared.vocabulary.Keyword.{Keyword}
+use Rattle.um_vocabulary.specs.declared.vocabulary.Keyword.TheVariants as keyword
+use Rattle.um_vocabulary.specs.declared.vocabulary.Symbol.{Symbol}
+use Rattle.um_vocabulary.specs.declared.vocabulary.Symbol.TheVariants as symbol
 use Rattle.um_tree.specs.declared.expression.Sign.TheVariants as compare
 use Rattle.um_tree.specs.RawTree.{bool_syntax, BinderSyntax, ExprSyntax, truth_syntax, number_syntax, pown_syntax, let_syntax, if_syntax, match_syntax, nil_syntax, list_syntax, fields_syntax, field_syntax, bracket_expr_syntax, exprs_in_order, fields_in_order}
 use Rattle.um_types.proofs.UnitLaws.{zero_number}

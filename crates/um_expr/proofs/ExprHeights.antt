@@ -14,8 +14,8 @@ use Rattle.um_types.specs.NoteMachine.{NoteState, NeedNote, HaveHole, InUnit, No
 use Rattle.um_types.specs.TypeMachine.{TypeState, NeedType, HaveType, NoType, type_step, type_finish, type_least, InNote as InTypeNote}
 use Rattle.um_types.proofs.NoteLaws.{note_completed, note_completed_height, note_up, note_found_height}
 use Rattle.um_types.proofs.TypeLaws.{type_completed, type_completed_height, type_up, type_found_height}
-use Rattle.um_syntax.specs.declared.vocabulary.Keyword.TheVariants as keyword
-use Rattle.um_syntax.specs.declared.vocabulary.Symbol.TheVariants as symbol
+use Rattle.um_vocabulary.specs.declared.vocabulary.Keyword.TheVariants as keyword
+use Rattle.um_vocabulary.specs.declared.vocabulary.Symbol.TheVariants as symbol
 use Rattle.um_operands.specs.declared.infix.Infix.{Infix}
 use Rattle.um_operands.specs.declared.infix.Infix.TheVariants as between
 use Rattle.um_operands.specs.Ranks.{infix_rank, left_limit, infix_text}

@@ -7,8 +7,8 @@ use Rattle.um_types.specs.NoteMachine.{NoNote}
 use Rattle.um_types.specs.TypeMachine.{NoType}
 use Rattle.um_types.proofs.NoteLaws.{NoteSpellsPrefix}
 use Rattle.um_types.proofs.TypeSound.{TypeSpellsPrefix}
-use Rattle.um_syntax.specs.declared.vocabulary.Keyword.TheVariants as keyword
-use Rattle.um_syntax.specs.declared.vocabulary.Symbol.TheVariants as symbol
+use Rattle.um_vocabulary.specs.declared.vocabulary.Keyword.TheVariants as keyword
+use Rattle.um_vocabulary.specs.declared.vocabulary.Symbol.TheVariants as symbol
 use Rattle.um_operands.specs.declared.infix.Infix.{Infix}
 use Rattle.um_operands.specs.declared.infix.Infix.TheVariants as between
 use Rattle.um_operands.specs.Ranks.{infix_rank, left_limit, right_bound, infix_text}

@@ -13,8 +13,8 @@ use Rattle.um_types.specs.NoteMachine.{NoteState, NeedNote, HaveHole, InUnit, No
 use Rattle.um_types.specs.TypeMachine.{TypeState, NeedType, HaveType, NoType, type_step, type_finish, InNote as InTypeNote}
 use Rattle.um_types.proofs.NoteLaws.{NoteSpellsPrefix, note_sound, note_found}
 use Rattle.um_types.proofs.TypeSound.{TypeSpellsPrefix, type_sound, type_found}
-use Rattle.um_syntax.specs.declared.vocabulary.Keyword.TheVariants as keyword
-use Rattle.um_syntax.specs.declared.vocabulary.Symbol.TheVariants as symbol
+use Rattle.um_vocabulary.specs.declared.vocabulary.Keyword.TheVariants as keyword
+use Rattle.um_vocabulary.specs.declared.vocabulary.Symbol.TheVariants as symbol
 use Rattle.um_operands.specs.declared.infix.Infix.{Infix}
 use Rattle.um_operands.specs.declared.infix.Infix.TheVariants as between
 use Rattle.um_operands.specs.Ranks.{infix_rank, left_limit}

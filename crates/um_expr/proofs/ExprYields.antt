@@ -13,7 +13,7 @@ use Rattle.um_types.specs.UnitMachine.{is_foreign}
 use Rattle.um_reader.proofs.Reaching.{lift}
 use Rattle.um_types.proofs.NoteComplete.{note_into, note_reaches, note_finds, note_stops}
 use Rattle.um_types.proofs.TypeComplete.{type_reaches}
-use Rattle.um_syntax.specs.declared.vocabulary.Symbol.TheVariants as symbol
+use Rattle.um_vocabulary.specs.declared.vocabulary.Symbol.TheVariants as symbol
 use Rattle.um_reader.specs.Machine.{Yields}
 use Rattle.um_reader.proofs.Reaching.{yields_then}
 use Rattle.um_operands.specs.ExprBegun.{Frame, State, Have, InNote, InType}

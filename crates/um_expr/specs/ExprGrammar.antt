@@ -22,8 +22,8 @@ use Rattle.um_tree.specs.RawTree.{truth_syntax, number_syntax, name_syntax, call
 use Rattle.um_tree.specs.RawTree.{pown_syntax, arith_syntax, compare_syntax, and_syntax, or_syntax, if_syntax}
 use Rattle.um_tree.specs.RawTree.{let_syntax, match_syntax, nil_syntax, list_syntax, cons_syntax, fields_syntax}
 use Rattle.um_tree.specs.RawTree.{field_syntax, bracket_expr_syntax, no_exprs, more_exprs, no_fields, more_fields}
-use Rattle.um_syntax.specs.declared.vocabulary.Keyword.TheVariants as keyword
-use Rattle.um_syntax.specs.declared.vocabulary.Symbol.TheVariants as symbol
+use Rattle.um_vocabulary.specs.declared.vocabulary.Keyword.TheVariants as keyword
+use Rattle.um_vocabulary.specs.declared.vocabulary.Symbol.TheVariants as symbol
 use Rattle.um_operands.specs.declared.infix.Infix.{Infix}
 use Rattle.um_operands.specs.declared.infix.Infix.TheVariants as between
 use Rattle.um_operands.specs.Ranks.{arith_rank}

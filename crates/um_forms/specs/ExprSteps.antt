@@ -1,8 +1,8 @@
 -- What a step of the code gives, and the tests that it makes.
 -- Source: this project's own.
 use Rattle.std.specs.Prelude.{◌≡◌, ℕ, Bool, false, List, [], ◌∷◌, Option, Some, None, option_map}
-use Rattle.um_syntax.specs.declared.vocabulary.Symbol.{Symbol}
-use Rattle.um_syntax.specs.declared.vocabulary.Symbol.TheVariants as symbol
+use Rattle.um_vocabulary.specs.declared.vocabulary.Symbol.{Symbol}
+use Rattle.um_vocabulary.specs.declared.vocabulary.Symbol.TheVariants as symbol
 use Rattle.um_tree.specs.RawTree.{ExprSyntax}
 use Rattle.um_types.specs.NoteMachine.{NeedNote}
 use Rattle.um_types.specs.TypeMachine.{NeedType}

@@ -9,8 +9,8 @@ use Rattle.um_types.specs.TypeGrammar.{TypeFits}
 use Rattle.um_types.specs.TypeMachine.{NeedType, HaveType, NoType, type_after}
 use Rattle.um_types.proofs.UnitComplete.{into as unit_into}
 use Rattle.um_types.proofs.UnitNested.{unit_finds}
-use Rattle.um_syntax.specs.declared.vocabulary.Keyword.TheVariants as keyword
-use Rattle.um_syntax.specs.declared.vocabulary.Symbol.TheVariants as symbol
+use Rattle.um_vocabulary.specs.declared.vocabulary.Keyword.TheVariants as keyword
+use Rattle.um_vocabulary.specs.declared.vocabulary.Symbol.TheVariants as symbol
 use Rattle.um_reader.specs.Machine.{runs, Yields}
 use Rattle.um_reader.proofs.Reaching.{yields_here, yields_as}
 use Rattle.um_tree.specs.declared.expression.Sign.TheVariants as compare

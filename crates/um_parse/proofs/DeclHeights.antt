@@ -9,8 +9,8 @@ use Rattle.um_types.specs.TypeHeights.{whole_height}
 use Rattle.um_types.specs.TypeMachine.{TypeState, NoType, type_step, type_finish, type_least}
 use Rattle.um_types.proofs.UnitHeights.{completed_height, unit_up, found_height}
 use Rattle.um_types.proofs.TypeLaws.{type_completed, type_completed_height, type_up, type_found_height}
-use Rattle.um_syntax.specs.declared.vocabulary.Keyword.TheVariants as keyword
-use Rattle.um_syntax.specs.declared.vocabulary.Symbol.TheVariants as symbol
+use Rattle.um_vocabulary.specs.declared.vocabulary.Keyword.TheVariants as keyword
+use Rattle.um_vocabulary.specs.declared.vocabulary.Symbol.TheVariants as symbol
 use Rattle.um_operands.specs.declared.infix.Infix.TheVariants as between
 use Rattle.um_operands.specs.ExprBegun.{State, Refused, finish}
 use Rattle.um_operands.specs.ExprLeast.{whole_least}

@@ -6,8 +6,8 @@ use Rattle.um_types.specs.UnitMachine.{Need as NeedUnit, Refused as NoUnit, run 
 use Rattle.um_types.specs.TypeGrammar.{TypeFits}
 use Rattle.um_types.specs.TypeMachine.{NoType}
 use Rattle.um_types.proofs.TypeSound.{TypeSpellsPrefix}
-use Rattle.um_syntax.specs.declared.vocabulary.Keyword.TheVariants as keyword
-use Rattle.um_syntax.specs.declared.vocabulary.Symbol.TheVariants as symbol
+use Rattle.um_vocabulary.specs.declared.vocabulary.Keyword.TheVariants as keyword
+use Rattle.um_vocabulary.specs.declared.vocabulary.Symbol.TheVariants as symbol
 use Rattle.um_operands.specs.ExprBegun.{Refused}
 use Rattle.um_forms.specs.declared.token.ExprToken.TheVariants.{Name as name, Word as word, Mark as mark}
 use Rattle.um_forms.specs.ExprTokens.{equal, less, greater}

@@ -10,8 +10,8 @@ use Rattle.um_reader.proofs.Reaching.{runs_append}
 use Rattle.um_types.proofs.UnitLaws.{found}
 use Rattle.um_types.proofs.UnitCut.{unit_before}
 use Rattle.um_types.proofs.TypeSound.{TypeSpellsPrefix, type_sound, type_found}
-use Rattle.um_syntax.specs.declared.vocabulary.Keyword.TheVariants as keyword
-use Rattle.um_syntax.specs.declared.vocabulary.Symbol.TheVariants as symbol
+use Rattle.um_vocabulary.specs.declared.vocabulary.Keyword.TheVariants as keyword
+use Rattle.um_vocabulary.specs.declared.vocabulary.Symbol.TheVariants as symbol
 use Rattle.um_operands.specs.declared.infix.Infix.TheVariants as between
 use Rattle.um_operands.specs.ExprBegun.{State, Need, Refused, finish}
 use Rattle.um_forms.specs.declared.token.ExprToken.{ExprToken}

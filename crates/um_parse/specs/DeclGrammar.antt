@@ -16,8 +16,8 @@ use Rattle.um_tree.specs.RawTree.{TypeSyntax, VarSyntax, FieldDeclSyntax, ParamS
 use Rattle.um_tree.specs.RawTree.{base_syntax, short_syntax, record_decl_syntax, function_syntax}
 use Rattle.um_types.specs.UnitGrammar.{Spells as UnitSpells, Fits as UnitFits}
 use Rattle.um_types.specs.TypeGrammar.{TypeSpells, TypeFits}
-use Rattle.um_syntax.specs.declared.vocabulary.Keyword.TheVariants as keyword
-use Rattle.um_syntax.specs.declared.vocabulary.Symbol.TheVariants as symbol
+use Rattle.um_vocabulary.specs.declared.vocabulary.Keyword.TheVariants as keyword
+use Rattle.um_vocabulary.specs.declared.vocabulary.Symbol.TheVariants as symbol
 use Rattle.um_forms.specs.declared.token.ExprToken.TheVariants.{Name as name, Variable as variable, Word as word}
 use Rattle.um_forms.specs.declared.token.ExprToken.TheVariants.{Mark as mark}
 use Rattle.um_forms.specs.ExprTokens.{equal, less, greater}

@@ -10,7 +10,7 @@ use Rattle.um_frac.proofs.LowestTerms.{above_zero, reduced_from}
 use Rattle.um_frac.proofs.FractionLaws.{negation, negation_from}
 use Rattle.um_syntax.specs.declared.token.Token.{Token}
 use Rattle.um_syntax.specs.declared.token.Kind.TheVariants as kind
-use Rattle.um_syntax.specs.declared.vocabulary.Symbol.TheVariants as symbol
+use Rattle.um_vocabulary.specs.declared.vocabulary.Symbol.TheVariants as symbol
 use Rattle.um_syntax.specs.Numeral.{Numeral, numeral_text, IsNumeral, ordinary_value}
 use Rattle.um_syntax.specs.Lexeme.{is_whole}
 use Rattle.um_types.specs.TypeGrammar.{FirstSign}

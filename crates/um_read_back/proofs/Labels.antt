@@ -8,10 +8,10 @@ use Rattle.std.specs.Char.{is_ascii_digit}
 use Rattle.unicode_ident.specs.Ident.{is_xid_continue}
 use Rattle.unicode_ident.proofs.IdentLemmas.{is_xid_continue-ascii}
 use Rattle.um_syntax.specs.declared.token.Token.{Token}
-use Rattle.um_syntax.specs.declared.vocabulary.Keyword.{Keyword}
-use Rattle.um_syntax.specs.declared.vocabulary.Symbol.{Symbol}
-use Rattle.um_syntax.specs.declared.vocabulary.Symbol.TheVariants as symbol
-use Rattle.um_syntax.specs.Vocabulary.{keyword_text, symbol_text}
+use Rattle.um_vocabulary.specs.declared.vocabulary.Keyword.{Keyword}
+use Rattle.um_vocabulary.specs.declared.vocabulary.Symbol.{Symbol}
+use Rattle.um_vocabulary.specs.declared.vocabulary.Symbol.TheVariants as symbol
+use Rattle.um_vocabulary.specs.Vocabulary.{keyword_text, symbol_text}
 use Rattle.um_syntax.specs.Gap.{is_space, IsGap, IsLastGap, nothing, space, comment, closed, unclosed}
 use Rattle.um_syntax.specs.Numeral.{AreDigits, IsDigits, Numeral, Whole, Decimal, Ratio, numeral_text, IsNumeral}
 use Rattle.um_syntax.specs.Lexeme.{starts_name, AllContinue, IsIdentifier, Lexeme, Name, Var, Number, Word, Hole, Sign, IsLexeme, kind_of}
@@ -19,7 +19,7 @@ use Rattle.um_syntax.specs.Lexeme.{text_of as lexeme_text}
 use Rattle.um_syntax.specs.Lexing.{size_of, is_glued, is_caret, is_caret_kind, is_minus_kind, is_power_place, Lexes}
 use Rattle.um_syntax.proofs.Reading.{ascii_no_name}
 use Rattle.um_syntax.proofs.Closing.{or_false}
-use Rattle.um_syntax.proofs.Tables.{keyword_identifier}
+use Rattle.um_syntax.proofs.WordLetters.{keyword_identifier}
 use Rattle.um_syntax.proofs.Texts.{head_of}
 use Rattle.um_types.specs.UnitTokens.{unit_token}
 use Rattle.um_show.proofs.Chain.{full, Clear}

@@ -6,9 +6,9 @@ use Rattle.unicode_ident.specs.Ident.{is_xid_continue}
 use Rattle.unicode_ident.proofs.IdentLemmas.{is_xid_continue-ascii}
 use Rattle.um_syntax.specs.declared.token.Kind.{Kind}
 use Rattle.um_syntax.specs.declared.token.Kind.TheVariants as kind_is
-use Rattle.um_syntax.specs.declared.vocabulary.Symbol.{Symbol}
-use Rattle.um_syntax.specs.declared.vocabulary.Symbol.TheVariants as symbol
-use Rattle.um_syntax.specs.Vocabulary.{symbol_text}
+use Rattle.um_vocabulary.specs.declared.vocabulary.Symbol.{Symbol}
+use Rattle.um_vocabulary.specs.declared.vocabulary.Symbol.TheVariants as symbol
+use Rattle.um_vocabulary.specs.Vocabulary.{symbol_text}
 use Rattle.um_syntax.specs.Numeral.{Numeral, Whole, Decimal, Ratio}
 use Rattle.um_syntax.specs.Lexeme.{Lexeme, Name, Var, Number, Word, Hole, Sign, Ends, IsAlone, SignEnds, LeavesLetter, NumeralEnds, begins, begins_part, kind_of}
 use Rattle.um_types.specs.UnitTokens.{unit_token}

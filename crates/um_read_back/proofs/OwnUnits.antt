@@ -18,7 +18,7 @@ use Rattle.um_units.proofs.Equality.{same_unit}
 use Rattle.um_units.proofs.InRange.{fits_from_powers}
 use Rattle.um_syntax.specs.declared.token.Token.{Token}
 use Rattle.um_syntax.specs.declared.token.Kind.TheVariants as kind
-use Rattle.um_syntax.specs.declared.vocabulary.Symbol.TheVariants as symbol
+use Rattle.um_vocabulary.specs.declared.vocabulary.Symbol.TheVariants as symbol
 use Rattle.um_tree.specs.RawTree.{UnitSyntax, UnitSyntaxes, measure_syntax, power_syntax, side_syntax, over_syntax, inverse_syntax, no_units, more_units}
 use Rattle.um_tree.specs.Heights.{unit_height, tallest_unit}
 use Rattle.um_types.specs.UnitTokens.{unit_token, number, power_from}

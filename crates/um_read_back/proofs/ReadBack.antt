@@ -18,9 +18,9 @@ use Rattle.um_units.specs.Variables.{IsClosed}
 use Rattle.um_syntax.specs.declared.token.Token.{Token}
 use Rattle.um_syntax.specs.declared.token.Kind.{Kind}
 use Rattle.um_syntax.specs.declared.token.Kind.TheVariants as kind_is
-use Rattle.um_syntax.specs.declared.vocabulary.Keyword.{Keyword}
-use Rattle.um_syntax.specs.declared.vocabulary.Keyword.TheVariants as keyword
-use Rattle.um_syntax.specs.Vocabulary.{keyword_text}
+use Rattle.um_vocabulary.specs.declared.vocabulary.Keyword.{Keyword}
+use Rattle.um_vocabulary.specs.declared.vocabulary.Keyword.TheVariants as keyword
+use Rattle.um_vocabulary.specs.Vocabulary.{keyword_text}
 use Rattle.um_syntax.specs.Gap.{is_space, IsGap, nothing, space, comment, closed}
 use Rattle.um_syntax.specs.Lexeme.{Lexeme, Name, Var, Number, Word, Hole, Sign, IsLexeme, kind_of, begins}
 use Rattle.um_syntax.specs.Lexeme.{text_of as lexeme_text}

@@ -11,7 +11,7 @@ use Rattle.unicode_ident.proofs.IdentLemmas.{is_xid_continue-ascii}
 use Rattle.um_syntax.specs.declared.token.Token.{Token}
 use Rattle.um_syntax.specs.declared.token.Kind.{Kind}
 use Rattle.um_syntax.specs.declared.token.Kind.TheVariants as kind_is
-use Rattle.um_syntax.specs.declared.vocabulary.Symbol.TheVariants as symbol
+use Rattle.um_vocabulary.specs.declared.vocabulary.Symbol.TheVariants as symbol
 use Rattle.um_syntax.specs.Lexeme.{Lexeme, IsLexeme, Ends, IsAlone, kind_of}
 use Rattle.um_syntax.specs.Lexeme.{text_of as lexeme_text}
 use Rattle.um_syntax.specs.Lexing.{size_of, ends_at, is_glued, is_caret_kind, is_minus_kind, is_caret, is_minus, is_power_place, Lexes}

@@ -9,12 +9,12 @@ use Rattle.um_frac.proofs.Gcd.{gcd-one}
 use Rattle.um_frac.proofs.LowestTerms.{fraction_from}
 use Rattle.um_frac.proofs.Outcomes.{reduced-whole}
 use Rattle.um_syntax.specs.declared.token.Kind.TheVariants as kind_is
-use Rattle.um_syntax.specs.declared.vocabulary.Keyword.{Keyword}
-use Rattle.um_syntax.specs.declared.vocabulary.Symbol.{Symbol}
-use Rattle.um_syntax.specs.Vocabulary.{keyword_text, symbol_text}
+use Rattle.um_vocabulary.specs.declared.vocabulary.Keyword.{Keyword}
+use Rattle.um_vocabulary.specs.declared.vocabulary.Symbol.{Symbol}
+use Rattle.um_vocabulary.specs.Vocabulary.{keyword_text, symbol_text}
 use Rattle.um_syntax.specs.Numeral.{Numeral, Whole, numeral_text, IsNumeral, ordinary_value}
 use Rattle.um_syntax.specs.Lexeme.{Name, Number, Word, Hole, Sign, is_whole, kind_of}
-use Rattle.um_syntax.proofs.Tables.{keyword_identifier}
+use Rattle.um_syntax.proofs.WordLetters.{keyword_identifier}
 use Rattle.um_syntax.proofs.Texts.{hole_encoded}
 use Rattle.um_types.specs.UnitTokens.{greatest_power}
 use Rattle.um_show.proofs.Numbers.{power_is, decimal_digits}

@@ -1,7 +1,7 @@
 -- The first and the last token of a unit text.
 use Rattle.std.proofs.Common.{◌≡◌, ◌⊎◌, ℕ, ℤ, Bool, true, false, List, [], ◌∷◌, ◌++◌, append_assoc, Option, refl, sym, ap, subst, ◌∙◌, inl, inr}
 use Rattle.um_syntax.specs.declared.token.Token.{Token}
-use Rattle.um_syntax.specs.declared.vocabulary.Symbol.TheVariants as symbol
+use Rattle.um_vocabulary.specs.declared.vocabulary.Symbol.TheVariants as symbol
 use Rattle.um_tree.specs.RawTree.{UnitSyntax, UnitSyntaxes, one_syntax, measure_syntax, variable_syntax, power_syntax, side_syntax, times_syntax, over_syntax, inverse_syntax, bracket_syntax, no_units, more_units}
 use Rattle.um_types.specs.UnitTokens.{UnitToken, sign, measure, variable, number, unit_token}
 use Rattle.um_types.specs.UnitGrammar.{First, FirstAt, PowerSpells, Spells, AllSpell, Fits, ArePowers}

@@ -4,7 +4,7 @@ use Rattle.std.specs.Prelude.{slice_get}
 use Rattle.um_syntax.specs.declared.token.Token.{Token}
 use Rattle.um_syntax.specs.declared.token.Kind.{Kind}
 use Rattle.um_syntax.specs.declared.token.Kind.TheVariants as kind
-use Rattle.um_syntax.specs.declared.vocabulary.Keyword.TheVariants as keyword
+use Rattle.um_vocabulary.specs.declared.vocabulary.Keyword.TheVariants as keyword
 use Rattle.um_syntax.specs.Lexeme.{AllContinue, IsIdentifier, IsWord, IsName}
 use Rattle.um_syntax.specs.Lexing.{HasTokens}
 use Rattle.um_syntax.proofs.TokenKinds.{AllKinds, KindsHold, kinds_hold}

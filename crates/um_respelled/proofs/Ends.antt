@@ -4,12 +4,12 @@ use Rattle.std.proofs.lemmas.Bool.{false≢true}
 use Rattle.std.proofs.lemmas.Bool.Decides.{nat_tests}
 use Rattle.std.specs.Char.{is_ascii_digit, is_ascii_alphanumeric, is_ascii_alphabetic}
 use Rattle.unicode_ident.specs.Ident.{is_xid_continue}
-use Rattle.um_syntax.specs.declared.vocabulary.Symbol.{Symbol}
-use Rattle.um_syntax.specs.declared.vocabulary.Symbol.TheVariants as symbol
-use Rattle.um_syntax.specs.Vocabulary.{symbol_text}
+use Rattle.um_vocabulary.specs.declared.vocabulary.Symbol.{Symbol}
+use Rattle.um_vocabulary.specs.declared.vocabulary.Symbol.TheVariants as symbol
+use Rattle.um_vocabulary.specs.Vocabulary.{symbol_text}
 use Rattle.um_syntax.specs.Numeral.{Numeral, Whole, Decimal, Ratio}
 use Rattle.um_syntax.specs.Lexeme.{Lexeme, Name, Var, Number, Word, Hole, Sign, IsWord, NumeralEnds, LeavesLetter, SignEnds, Ends, IsAlone}
-use Rattle.um_syntax.proofs.Tables.{are_letters, keyword_letters}
+use Rattle.um_syntax.proofs.WordLetters.{are_letters, keyword_letters}
 use Rattle.um_respelled.proofs.Alike.{Alike, AlikeTexts, continues_alike, digit_alike, part_alike, all_last}
 
 pub both_true : (a b : Bool) → (a && b) ≡ true → (a ≡ true) × (b ≡ true)

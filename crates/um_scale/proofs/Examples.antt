@@ -14,8 +14,8 @@ use Rattle.um_tree.specs.ValueTree.{InputTree, truth_input, number_input, list_i
 use Rattle.um_tree.proofs.ExamplePrograms.{whole, zero_number, one_number, metre, second}
 use Rattle.um_syntax.specs.declared.token.Token.{Token}
 use Rattle.um_syntax.specs.declared.token.Kind.TheVariants as kind
-use Rattle.um_syntax.specs.declared.vocabulary.Symbol.{Symbol}
-use Rattle.um_syntax.specs.declared.vocabulary.Symbol.TheVariants as symbol
+use Rattle.um_vocabulary.specs.declared.vocabulary.Symbol.{Symbol}
+use Rattle.um_vocabulary.specs.declared.vocabulary.Symbol.TheVariants as symbol
 use Rattle.um_show.specs.NumberText.{number_text}
 use Rattle.um_scale.specs.Sizes.{factor_within}
 use Rattle.um_scale.specs.RescaledLiterals.{misfit}

@@ -5,11 +5,11 @@ use Rattle.std.proofs.lemmas.Bool.Decides.{nat_tests}
 use Rattle.std.specs.Char.{is_ascii_alphanumeric}
 use Rattle.unicode_ident.specs.Ident.{is_xid_continue}
 use Rattle.unicode_ident.proofs.IdentLemmas.{is_xid_continue-ascii}
-use Rattle.um_syntax.specs.declared.vocabulary.Symbol.{Symbol}
-use Rattle.um_syntax.specs.declared.vocabulary.Symbol.TheVariants as symbol
-use Rattle.um_syntax.specs.Vocabulary.{symbol_text}
+use Rattle.um_vocabulary.specs.declared.vocabulary.Symbol.{Symbol}
+use Rattle.um_vocabulary.specs.declared.vocabulary.Symbol.TheVariants as symbol
+use Rattle.um_vocabulary.specs.Vocabulary.{symbol_text}
 use Rattle.um_syntax.specs.Lexeme.{begins}
-use Rattle.um_syntax.proofs.Tables.{symbol_form}
+use Rattle.um_vocabulary.proofs.Tables.{symbol_form}
 
 -- a character of the ASCII range that continues no name
 abbrev pub is_mark : ℕ → Bool

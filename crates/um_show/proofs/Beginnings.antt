@@ -7,13 +7,13 @@ use Rattle.std.specs.Char.{is_ascii_digit, is_ascii_alphabetic, is_ascii_alphanu
 use lib.Utf8.{scalar, scalars, encodes, low_scalar}
 use Rattle.unicode_ident.specs.Ident.{is_xid_continue}
 use Rattle.unicode_ident.proofs.IdentLemmas.{is_xid_continue-ascii}
-use Rattle.um_syntax.specs.declared.vocabulary.Keyword.{Keyword}
-use Rattle.um_syntax.specs.declared.vocabulary.Symbol.{Symbol}
-use Rattle.um_syntax.specs.Vocabulary.{keyword_text, symbol_text}
+use Rattle.um_vocabulary.specs.declared.vocabulary.Keyword.{Keyword}
+use Rattle.um_vocabulary.specs.declared.vocabulary.Symbol.{Symbol}
+use Rattle.um_vocabulary.specs.Vocabulary.{keyword_text, symbol_text}
 use Rattle.um_syntax.specs.Numeral.{AreDigits, IsDigits, Numeral, Whole, Decimal, Ratio, numeral_text, IsNumeral}
 use Rattle.um_syntax.specs.Lexeme.{starts_name, IsIdentifier, Lexeme, Sign, Number, text_of, IsLexeme, begins, NumeralEnds}
 use Rattle.um_syntax.proofs.Reading.{ascii_no_name, digit_no_name}
-use Rattle.um_syntax.proofs.Tables.{are_letters, keyword_letters}
+use Rattle.um_syntax.proofs.WordLetters.{are_letters, keyword_letters}
 use Rattle.um_syntax.proofs.Texts.{head_of}
 use Rattle.um_syntax.proofs.Digits.{IsDigits-are}
 use Rattle.um_show.proofs.Apart.{are_marks, is_mark, both_true, sign_marks, sign_begins}

@@ -18,10 +18,10 @@ use Rattle.um_syntax.proofs.TokenKinds.{AllKinds, KindsHold, kinds_hold}
 use Rattle.um_types.specs.UnitTokens.{unit_token, power_from, greatest_power}
 use Rattle.um_types.specs.UnitTokens as of_unit
 use Rattle.um_types.specs.UnitMachine.{power_in}
-use Rattle.um_syntax.specs.declared.vocabulary.Keyword.{Keyword}
-use Rattle.um_syntax.specs.declared.vocabulary.Keyword.TheVariants as keyword
-use Rattle.um_syntax.specs.declared.vocabulary.Symbol.{Symbol}
-use Rattle.um_syntax.specs.declared.vocabulary.Symbol.TheVariants as symbol
+use Rattle.um_vocabulary.specs.declared.vocabulary.Keyword.{Keyword}
+use Rattle.um_vocabulary.specs.declared.vocabulary.Keyword.TheVariants as keyword
+use Rattle.um_vocabulary.specs.declared.vocabulary.Symbol.{Symbol}
+use Rattle.um_vocabulary.specs.declared.vocabulary.Symbol.TheVariants as symbol
 use Rattle.um_forms.specs.declared.token.ExprToken.{ExprToken}
 use Rattle.um_forms.specs.declared.token.ExprToken.TheVariants.{Name as name, Variable as variable, Number as number, Truth as truth, Hole as hole, Operator as operator, Word as word, Mark as mark}
 use Rattle.um_forms.specs.ExprTokens.{expr_token, keyword_token, symbol_token}

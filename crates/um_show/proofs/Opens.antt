@@ -15,13 +15,13 @@ use Rattle.um_frac.proofs.LowestTerms.{fraction_from}
 use Rattle.um_frac.proofs.Outcomes.{reduced-whole}
 use Rattle.um_syntax.specs.declared.token.Kind.{Kind}
 use Rattle.um_syntax.specs.declared.token.Kind.TheVariants as kind_is
-use Rattle.um_syntax.specs.declared.vocabulary.Keyword.{Keyword}
-use Rattle.um_syntax.specs.declared.vocabulary.Symbol.{Symbol}
-use Rattle.um_syntax.specs.Vocabulary.{keyword_text, symbol_text}
+use Rattle.um_vocabulary.specs.declared.vocabulary.Keyword.{Keyword}
+use Rattle.um_vocabulary.specs.declared.vocabulary.Symbol.{Symbol}
+use Rattle.um_vocabulary.specs.Vocabulary.{keyword_text, symbol_text}
 use Rattle.um_syntax.specs.Numeral.{Whole, numeral_text, number_value}
 use Rattle.um_syntax.specs.Lexeme.{Lexeme, Name, Var, Number, Word, Hole, Sign, text_of, IsLexeme, Ends, IsAlone, is_whole, kind_of}
 use Rattle.um_syntax.specs.Lexing.{is_caret_kind, is_minus_kind}
-use Rattle.um_syntax.proofs.Tables.{keyword_identifier}
+use Rattle.um_syntax.proofs.WordLetters.{keyword_identifier}
 use Rattle.um_syntax.proofs.Texts.{hole_encoded}
 use Rattle.um_types.specs.UnitTokens.{greatest_power}
 use Rattle.um_show.specs.Pieces.{Piece, name, variable, number, digits, word, sign, hole, space, line_end, piece_text}

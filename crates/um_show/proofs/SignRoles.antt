@@ -2,13 +2,13 @@
 use Rattle.std.proofs.Common.{◌≡◌, ℕ, ◌<◌, Bool, true, false, ◌==◌, ◌||◌, ◌&&◌, cond, eqb, List, [], ◌∷◌, ◌++◌, length, Some, None, is_some, refl, sym, ap, ◌∙◌, subst, arith}
 use Rattle.std.proofs.lemmas.Bool.{false≢true, or_parts, or_from}
 use Rattle.std.specs.Char.{is_ascii_digit}
-use Rattle.um_syntax.specs.declared.vocabulary.Symbol.{Symbol}
-use Rattle.um_syntax.specs.declared.vocabulary.Symbol.TheVariants as symbol
+use Rattle.um_vocabulary.specs.declared.vocabulary.Symbol.{Symbol}
+use Rattle.um_vocabulary.specs.declared.vocabulary.Symbol.TheVariants as symbol
 use Rattle.um_syntax.specs.declared.token.Kind.TheVariants as kind
-use Rattle.um_syntax.specs.Vocabulary.{symbol_text}
+use Rattle.um_vocabulary.specs.Vocabulary.{symbol_text}
 use Rattle.um_syntax.specs.Lexing.{is_caret_kind, is_minus_kind}
 use Rattle.um_syntax.specs.Lexeme.{SignEnds, begins, begins_part}
-use Rattle.um_syntax.specs.Machine.{double_symbol, double_symbols, found_pair}
+use Rattle.um_vocabulary.specs.Tables.{double_symbol, double_symbols, found_pair}
 use Rattle.um_syntax.proofs.SignEnds.{grows, sign_ends}
 use Rattle.um_show.proofs.Chain.{Place, fresh, full, raised, lowered, pointed, Role, opening, closing, lowering, slashing, raising, pointing, role, after_role, is_second, is_slash, Clear, is_behind, is_raised, is_power}
 

@@ -1,7 +1,7 @@
 -- The layout of an expression has the table's spaces.
 use Rattle.std.proofs.Common.{◌≡◌, refl, sym, ap, ◌∙◌, ℕ, suc, ◌≤◌, ℤ, pos, negsuc, Bool, true, false, cond, List, [], ◌∷◌, ◌++◌, Option, Some, None, arith}
 use Rattle.um_syntax.specs.declared.token.Token.{Token}
-use Rattle.um_syntax.specs.declared.vocabulary.Symbol.TheVariants as symbol
+use Rattle.um_vocabulary.specs.declared.vocabulary.Symbol.TheVariants as symbol
 use Rattle.um_tree.specs.declared.expression.Arith.{Arith}
 use Rattle.um_tree.specs.declared.expression.Arith.TheVariants as arith_of
 use Rattle.um_tree.specs.declared.expression.Sign.{Sign}

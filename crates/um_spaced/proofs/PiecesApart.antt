@@ -1,9 +1,9 @@
 -- Where a piece may stand directly behind another, no token runs into the next.
 use Rattle.std.proofs.Common.{◌≡◌, refl, ap, ◌∙◌, true, false}
 use Rattle.um_syntax.specs.declared.token.Kind.{Kind}
-use Rattle.um_syntax.specs.declared.vocabulary.Symbol.{Symbol}
-use Rattle.um_syntax.specs.declared.vocabulary.Symbol.TheVariants as symbol
-use Rattle.um_syntax.specs.Vocabulary.{symbol_text}
+use Rattle.um_vocabulary.specs.declared.vocabulary.Symbol.{Symbol}
+use Rattle.um_vocabulary.specs.declared.vocabulary.Symbol.TheVariants as symbol
+use Rattle.um_vocabulary.specs.Vocabulary.{symbol_text}
 use Rattle.um_show.specs.Pieces.{Piece, name, variable, number, digits, word, sign, hole, space, line_end}
 use Rattle.um_show.proofs.PieceTokens.{IsKind}
 use Rattle.um_show.proofs.Chain.{Place, fresh, full, raised, lowered, pointed, lowering, role, after_role, after, is_fresh, takes_digit, takes_sign, may}

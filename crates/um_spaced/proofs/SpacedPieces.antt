@@ -1,7 +1,7 @@
 -- Pieces that stand one behind the other with the table's spaces.
 use Rattle.std.proofs.Common.{◌≡◌, ℕ, refl, sym, subst, Bool, true, false, ◌||◌, List, [], ◌∷◌, ◌++◌}
 use Rattle.std.proofs.lemmas.Bool.{false≢true}
-use Rattle.um_syntax.specs.declared.vocabulary.Symbol.{Symbol}
+use Rattle.um_vocabulary.specs.declared.vocabulary.Symbol.{Symbol}
 use Rattle.um_show.specs.Pieces.{Piece, name, variable, number, digits, word, sign, hole, space, line_end}
 use Rattle.um_tidy.specs.declared.stand.Next.{Next}
 use Rattle.um_tidy.specs.declared.stand.Next.TheVariants as next_of

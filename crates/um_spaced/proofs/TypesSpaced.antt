@@ -3,7 +3,7 @@ use Rattle.std.proofs.Common.{◌≡◌, refl, ap, Bool, true, false, cond, List
 use Rattle.std.specs.List.{flat_map}
 use Rattle.um_tree.specs.RawTree.{NoteSyntax, hole_syntax, unit_note_syntax, TypeSyntax, bool_syntax, num_syntax, record_syntax, list_type_syntax, bracket_type_syntax}
 use Rattle.um_types.specs.TypeGrammar.{at_most_one, NoteFits, NotesFit, TypeFits}
-use Rattle.um_syntax.specs.declared.vocabulary.Symbol.TheVariants as symbol
+use Rattle.um_vocabulary.specs.declared.vocabulary.Symbol.TheVariants as symbol
 use Rattle.um_show.specs.Pieces.{Piece, space, comma, less, greater, list_word, bracket_close}
 use Rattle.um_show.specs.Layout.{note_pieces, written_pieces, angled_pieces, type_pieces}
 use Rattle.um_tidy.specs.declared.stand.Next.{Next}

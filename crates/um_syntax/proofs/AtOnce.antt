@@ -16,17 +16,19 @@ use Rattle.um_syntax.specs.declared.number.Part.TheVariants as part
 use Rattle.um_syntax.specs.declared.number.Figures.{Figures}
 use Rattle.um_syntax.specs.declared.pending.Pending.{Pending}
 use Rattle.um_syntax.specs.declared.pending.Pending.TheVariants as pending
-use Rattle.um_syntax.specs.declared.vocabulary.Symbol.{Symbol}
+use Rattle.um_vocabulary.specs.declared.vocabulary.Symbol.{Symbol}
 use Rattle.um_syntax.specs.Gap.{IsLine}
 use Rattle.um_syntax.specs.Lexing.{is_power_place}
 use Rattle.um_syntax.specs.Lexeme.{starts_name}
-use Rattle.um_syntax.specs.Machine.{Scan, single_symbol, double_symbol, chosen_symbol, front_symbol, keyword_of, letters_kind, takes, part_takes, close, taken, begun, followed, ends_in_digit, keeps, AllKept, IsNameRun, ends_name, ends_number, IsNumberRun, free_at, pushed, sign_pushed, symbol_taken, variable_pushed, number_taken, number_pushed, figures_kind, first_figures, step, steps, Reaches}
+use Rattle.um_syntax.specs.Machine.{Scan, letters_kind, takes, part_takes, close, taken, begun, followed, ends_in_digit, keeps, AllKept, IsNameRun, ends_name, ends_number, IsNumberRun, free_at, pushed, sign_pushed, symbol_taken, variable_pushed, number_taken, number_pushed, figures_kind, first_figures, step, steps, Reaches}
+use Rattle.um_vocabulary.specs.Tables.{single_symbol, double_symbol, chosen_symbol, front_symbol, keyword_of}
 use Rattle.um_syntax.specs.Scanning.{Scans}
 use Rattle.um_syntax.proofs.Runs.{steps-append, reaches_now, reaches_on}
 use Rattle.um_syntax.proofs.Closing.{scan_at}
-use Rattle.um_syntax.proofs.Tables.{IsMark, single_symbol-mark, double_symbol-mark, double_symbol-first, double_symbol-feed}
+use Rattle.um_syntax.proofs.WordLetters.{IsMark, single_symbol-mark, double_symbol-mark}
+use Rattle.um_vocabulary.proofs.Tables.{double_symbol-first, double_symbol-feed}
 use Rattle.um_syntax.proofs.Reading.{begin_digit, begin_quote, begin_symbol}
-use Rattle.um_syntax.proofs.Bools.{and_parts}
+use Rattle.um_vocabulary.proofs.Bools.{and_parts}
 use Rattle.um_syntax.proofs.Kept.{kept_letters, kept_ascii, kept_line, kept_boundary, kept_chars, kept_more, plain_byte, plain, name_kept, steps_kept, steps_name, IsLine-both, chars_cut, chars_on}
 
 -- nothing is taken

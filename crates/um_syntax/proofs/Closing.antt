@@ -6,9 +6,9 @@ use Rattle.std.specs.Char.{is_ascii_digit, len_utf8}
 use lib.Utf8.{encodes}
 use Rattle.unicode_ident.specs.Ident.{is_xid_start, is_xid_continue}
 use Rattle.unicode_ident.proofs.IdentLemmas.{is_xid_start-ascii, is_xid_continue-ascii, is_xid_start-is_xid_continue}
-use Rattle.um_syntax.specs.declared.vocabulary.Keyword.{Keyword}
-use Rattle.um_syntax.specs.declared.vocabulary.Symbol.{Symbol}
-use Rattle.um_syntax.specs.declared.vocabulary.Symbol.TheVariants as symbol
+use Rattle.um_vocabulary.specs.declared.vocabulary.Keyword.{Keyword}
+use Rattle.um_vocabulary.specs.declared.vocabulary.Symbol.{Symbol}
+use Rattle.um_vocabulary.specs.declared.vocabulary.Symbol.TheVariants as symbol
 use Rattle.um_syntax.specs.declared.token.Kind.{Kind}
 use Rattle.um_syntax.specs.declared.token.Kind.TheVariants as kind
 use Rattle.um_syntax.specs.declared.token.Token.{Token}
@@ -18,16 +18,18 @@ use Rattle.um_syntax.specs.declared.number.Part.{Part}
 use Rattle.um_syntax.specs.declared.number.Part.TheVariants as part
 use Rattle.um_syntax.specs.declared.pending.Pending.{Pending}
 use Rattle.um_syntax.specs.declared.pending.Pending.TheVariants as pending
-use Rattle.um_syntax.specs.Vocabulary.{keyword_text, symbol_text}
+use Rattle.um_vocabulary.specs.Vocabulary.{keyword_text, symbol_text}
 use Rattle.um_syntax.specs.Gap.{IsLine}
 use Rattle.um_syntax.specs.Numeral.{Numeral, Whole, Decimal, Ratio, numeral_text, IsNumeral}
 use Rattle.um_syntax.specs.Lexeme.{starts_name, IsIdentifier, IsName, Name, Var, Number, Sign, begins, NumeralEnds, SignEnds, is_whole, kind_of}
 use Rattle.um_syntax.specs.Lexing.{size_of, is_glued, is_power_place, IsNumberAt}
-use Rattle.um_syntax.specs.Machine.{Scan, keyword_of, single_symbol, double_symbol, part_takes, takes, is_whole_part, pushed, letters_kind, identifier_pushed, variable_pushed, part_pushed, number_pushed, sign_pushed, close, ends_in_digit}
+use Rattle.um_syntax.specs.Machine.{Scan, part_takes, takes, is_whole_part, pushed, letters_kind, identifier_pushed, variable_pushed, part_pushed, number_pushed, sign_pushed, close, ends_in_digit}
+use Rattle.um_vocabulary.specs.Tables.{keyword_of, single_symbol, double_symbol}
 use Rattle.um_syntax.proofs.Places.{size_of-append}
 use Rattle.um_syntax.proofs.Digits.{figures_of, figures_kind-of}
 use Rattle.std.proofs.lemmas.Slice.Eq.{bytes_eq-Decides}
-use Rattle.um_syntax.proofs.Tables.{keyword_of-none, keyword_encoded, keyword_parts, letters_encoded, last_encoded, letter_starts_name, letter_starts, single_symbol-text, symbol_text-double}
+use Rattle.um_syntax.proofs.WordLetters.{keyword_of-none, keyword_encoded, keyword_parts, letters_encoded, last_encoded, letter_starts_name, letter_starts}
+use Rattle.um_vocabulary.proofs.Tables.{single_symbol-text, symbol_text-double}
 use Rattle.um_syntax.proofs.Texts.{NoHead, nothing_at, identifier_head, hole_from, no_hole_from, word_from, no_word_from, identifier_read}
 use Rattle.um_syntax.proofs.Meaning.{Means, next_token, faulty_here, token_here}
 

@@ -7,9 +7,9 @@ use Rattle.std.specs.Char.{is_ascii_digit, len_utf8}
 use lib.Utf8.{encodes}
 use Rattle.unicode_ident.specs.Ident.{is_xid_continue}
 use Rattle.unicode_ident.proofs.IdentLemmas.{is_xid_continue-ascii}
-use Rattle.um_syntax.specs.declared.vocabulary.Keyword.{Keyword}
-use Rattle.um_syntax.specs.declared.vocabulary.Symbol.{Symbol}
-use Rattle.um_syntax.specs.declared.vocabulary.Symbol.TheVariants as symbol
+use Rattle.um_vocabulary.specs.declared.vocabulary.Keyword.{Keyword}
+use Rattle.um_vocabulary.specs.declared.vocabulary.Symbol.{Symbol}
+use Rattle.um_vocabulary.specs.declared.vocabulary.Symbol.TheVariants as symbol
 use Rattle.um_syntax.specs.declared.token.Kind.{Kind}
 use Rattle.um_syntax.specs.declared.token.Kind.TheVariants as kind
 use Rattle.um_syntax.specs.declared.token.Token.{Token}
@@ -19,14 +19,16 @@ use Rattle.um_syntax.specs.declared.number.Part.{Part}
 use Rattle.um_syntax.specs.declared.number.Part.TheVariants as part
 use Rattle.um_syntax.specs.declared.pending.Pending.{Pending}
 use Rattle.um_syntax.specs.declared.pending.Pending.TheVariants as pending
-use Rattle.um_syntax.specs.Vocabulary.{keyword_text, symbol_text}
+use Rattle.um_vocabulary.specs.Vocabulary.{keyword_text, symbol_text}
 use Rattle.um_syntax.specs.Gap.{IsLastGap, closed, unclosed, IsLine}
 use Rattle.um_syntax.specs.Numeral.{Numeral, Whole, Decimal, Ratio, numeral_text, IsNumeral}
 use Rattle.um_syntax.specs.Lexeme.{starts_name, AllContinue, IsIdentifier, IsWord, IsName, Lexeme, Name, Var, Number, Word, Hole, Sign, text_of, IsLexeme, begins, NumeralEnds, LeavesLetter, SignEnds, Ends, IsAlone, is_whole, kind_of}
 use Rattle.um_syntax.specs.Lexing.{size_of, is_glued, is_power_place, IsNext, Lexes}
-use Rattle.um_syntax.specs.Machine.{Scan, keyword_of, single_symbol, double_symbol, takes, part_takes, is_whole_part, letters_kind, word_kind, part_pushed, number_pushed, close, ends_in_digit, step, steps, ended, tokens_of}
+use Rattle.um_syntax.specs.Machine.{Scan, takes, part_takes, is_whole_part, letters_kind, word_kind, part_pushed, number_pushed, close, ends_in_digit, step, steps, ended, tokens_of}
+use Rattle.um_vocabulary.specs.Tables.{keyword_of, single_symbol, double_symbol}
 use Rattle.um_syntax.proofs.Digits.{figures_of, figures_kind-of}
-use Rattle.um_syntax.proofs.Tables.{keyword_parts, keyword_encoded, keyword_of-keyword, keyword_identifier, letters_encoded, last_encoded, letter_starts_name, symbol_form, single_symbol-mark, double_symbol-mark, double_symbol-first, double_symbol-text, IsMark}
+use Rattle.um_syntax.proofs.WordLetters.{keyword_parts, keyword_encoded, keyword_identifier, letters_encoded, last_encoded, letter_starts_name, single_symbol-mark, double_symbol-mark, IsMark}
+use Rattle.um_vocabulary.proofs.Tables.{keyword_of-keyword, symbol_form, double_symbol-first, double_symbol-text}
 use Rattle.um_syntax.proofs.Texts.{hole_from, word_from, hole_encoded}
 use Rattle.um_syntax.proofs.Closing.{scan_at, append_nil, number_state, snoc_same, size_of-snoc, dot_ends}
 use Rattle.um_syntax.proofs.Reading.{run, run_on, run_stop, free, gap_run, identifier_run, begin_symbol, variable_at, variable_run, digits_at, part_of, number_run}

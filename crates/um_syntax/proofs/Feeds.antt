@@ -5,7 +5,7 @@ use Rattle.std.proofs.lemmas.Str.{encodes-append, encode_same, encode_ascii, cha
 use Rattle.std.specs.Str.{chars, IsUtf8}
 use lib.Utf8.{encode, encodes, scalar, scalars, next}
 use Rattle.unicode_ident.proofs.IdentLemmas.{is_xid_continue-ascii}
-use Rattle.um_syntax.specs.declared.vocabulary.Symbol.{Symbol}
+use Rattle.um_vocabulary.specs.declared.vocabulary.Symbol.{Symbol}
 use Rattle.um_syntax.specs.declared.token.Token.{Token}
 use Rattle.um_syntax.specs.declared.token.LexStop.{LexStop}
 use Rattle.um_syntax.specs.declared.token.LexStop.TheVariants as lex
@@ -17,7 +17,8 @@ use Rattle.um_syntax.specs.declared.pending.Pending.TheVariants as pending
 use Rattle.um_syntax.specs.declared.feed.Lexer.{Lexer}
 use Rattle.um_syntax.specs.Gap.{IsLine, nothing, closed}
 use Rattle.um_syntax.specs.Lexing.{HasTokens}
-use Rattle.um_syntax.specs.Machine.{Scan, scan_start, takes, double_symbol, close, ends_in_digit, followed, at_state, taken, step, steps, ended, tokens_of}
+use Rattle.um_syntax.specs.Machine.{Scan, scan_start, takes, close, ends_in_digit, followed, at_state, taken, step, steps, ended, tokens_of}
+use Rattle.um_vocabulary.specs.Tables.{double_symbol}
 use Rattle.um_syntax.specs.Scanning.{Stops}
 use Rattle.um_syntax.specs.Feeding.{HasRead, EndsLine, CountsTokens, CountsLines, is_readable, IsReadable, text_stop, HasScanned, HasBehind}
 use Rattle.um_syntax.specs.Decoding.{char_len, NoWhole, NoChar}
@@ -27,10 +28,10 @@ use Rattle.std.proofs.Math.ListN.{set, length-set}
 use Rattle.std.proofs.lemmas.List.{take_more_set, length-take-le, length-take}
 use Rattle.um_syntax.proofs.Runs.{steps-append, reaches_now}
 use Rattle.unicode_ident.specs.Ident.{is_xid_continue}
-use Rattle.um_syntax.proofs.Tables.{double_symbol-feed}
+use Rattle.um_vocabulary.proofs.Tables.{double_symbol-feed}
 use Rattle.um_syntax.proofs.Reading.{ascii_no_name}
 use Rattle.um_syntax.proofs.Whole.{scanned_complete, unique_tokens}
-use Rattle.um_syntax.proofs.Bools.{and_true, and_parts}
+use Rattle.um_vocabulary.proofs.Bools.{and_true, and_parts}
 
 -- no characters, no tokens
 pub none_counted : (tokens : List Token) → HasTokens [] tokens → 0 ≡ length tokens

@@ -19,7 +19,7 @@ use Rattle.um_syntax.specs.Feeding.{IsTextAnswer, is_readable, IsReadable, text_
 use Rattle.um_syntax.proofs.Places.{size_of-encodes}
 use Rattle.um_syntax.proofs.Whole.{tokens_from, fault_from}
 use Rattle.um_syntax.proofs.Feeds.{text_front, behind_is, behind_no_whole}
-use Rattle.um_syntax.proofs.Bools.{and_parts}
+use Rattle.um_vocabulary.proofs.Bools.{and_parts}
 
 valid_up_to : (cs tail : List ℕ) → scalars cs ≡ true → NoWhole tail → 0 < length tail → IsValidUpTo (encodes cs ++ tail) (length (encodes cs))
 valid_up_to cs tail s none some = record {

@@ -18,7 +18,7 @@ use Rattle.um_syntax.specs.Machine.{Scan, scan_start, keeps, AllKept, begins_nam
 use Rattle.um_syntax.specs.Feeding.{CountsLines, HasScanned}
 use Rattle.um_syntax.proofs.Runs.{reaches_on}
 use Rattle.um_syntax.proofs.Closing.{scan_at}
-use Rattle.um_syntax.proofs.Bools.{and_true, and_parts}
+use Rattle.um_vocabulary.proofs.Bools.{and_true, and_parts}
 
 -- a byte that keeps something is ASCII, and no line feed
 keeps_ascii : (p : Pending) (b : ℕ) → keeps p b ≡ true → (b < 128) × (eqb b 10 ≡ false)

@@ -3,12 +3,13 @@ use Rattle.std.proofs.Common.{◌≡◌, ◌≢◌, ℕ, ◌<◌, true, false, �
 use Rattle.std.proofs.lemmas.Bool.{false≢true}
 use Rattle.std.specs.Char.{is_ascii_digit}
 use Rattle.unicode_ident.specs.Ident.{is_xid_continue}
-use Rattle.um_syntax.specs.declared.vocabulary.Symbol.{Symbol}
-use Rattle.um_syntax.specs.Vocabulary.{keyword_text, symbol_text}
+use Rattle.um_vocabulary.specs.declared.vocabulary.Symbol.{Symbol}
+use Rattle.um_vocabulary.specs.Vocabulary.{keyword_text, symbol_text}
 use Rattle.um_syntax.specs.Numeral.{Numeral, Whole, Decimal, Ratio, numeral_text, IsNumeral, AreDigits, IsDigits}
 use Rattle.um_syntax.specs.Lexeme.{starts_name, AllContinue, IsIdentifier, IsName, Lexeme, Name, Var, Number, Word, Hole, Sign, text_of, IsLexeme, begins, NumeralEnds, LeavesLetter, SignEnds, Ends}
 use Rattle.um_syntax.specs.Laws.{NoTokenIsLonger}
-use Rattle.um_syntax.proofs.Tables.{keyword_identifier, symbol_form, symbol_text-three, single_symbol-mark, double_symbol-mark, IsMark}
+use Rattle.um_syntax.proofs.WordLetters.{keyword_identifier, single_symbol-mark, double_symbol-mark, IsMark}
+use Rattle.um_vocabulary.proofs.Tables.{symbol_form, symbol_text-three}
 use Rattle.um_syntax.proofs.Texts.{head_of}
 use Rattle.um_syntax.proofs.Reading.{digit_no_name, ascii_no_name}
 

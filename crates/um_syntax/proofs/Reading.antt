@@ -15,11 +15,12 @@ use Rattle.um_syntax.specs.Gap.{is_space, IsLine, IsGap, nothing, space, comment
 use Rattle.um_syntax.specs.Numeral.{Numeral, Whole, Decimal, Ratio, numeral_text, IsNumeral, AreDigits, IsDigits}
 use Rattle.um_syntax.specs.Lexeme.{starts_name, AllContinue, IsIdentifier}
 use Rattle.um_syntax.specs.Lexing.{size_of}
-use Rattle.um_syntax.specs.Machine.{Scan, single_symbol, first_figures, more_figures, part_after_digit, step, steps, ended}
+use Rattle.um_syntax.specs.Machine.{Scan, first_figures, more_figures, part_after_digit, step, steps, ended}
+use Rattle.um_vocabulary.specs.Tables.{single_symbol}
 use Rattle.um_syntax.proofs.Places.{size_of-append}
 use Rattle.um_syntax.proofs.Runs.{steps-stopped}
 use Rattle.um_syntax.proofs.Digits.{figures_of, figures-first, figures-whole, figures-point, figures-decimal, figures-over, figures-ratio}
-use Rattle.um_syntax.proofs.Tables.{IsMark}
+use Rattle.um_syntax.proofs.WordLetters.{IsMark}
 use Rattle.um_syntax.proofs.Closing.{scan_at, append_nil, number_state}
 
 -- the answer from a state on

@@ -4,7 +4,7 @@ use Rattle.std.proofs.lemmas.Bool.{false≢true, eqb-true}
 use Rattle.std.proofs.lemmas.Str.{encode_ascii}
 use Rattle.std.specs.Char.{is_ascii_digit}
 use Rattle.unicode_ident.specs.Ident.{is_xid_continue}
-use Rattle.um_syntax.specs.declared.vocabulary.Symbol.{Symbol}
+use Rattle.um_vocabulary.specs.declared.vocabulary.Symbol.{Symbol}
 use Rattle.um_syntax.specs.declared.token.Kind.{Kind}
 use Rattle.um_syntax.specs.declared.token.Token.{Token}
 use Rattle.um_syntax.specs.declared.token.LexStop.{LexStop}
@@ -13,8 +13,10 @@ use Rattle.um_syntax.specs.declared.pending.Pending.TheVariants as pending
 use Rattle.um_syntax.specs.Numeral.{Numeral, Whole, numeral_text}
 use Rattle.um_syntax.specs.Lexeme.{starts_name, IsIdentifier, IsWord, Lexeme, Var, Number, Sign, text_of, IsLexeme, begins, kind_of}
 use Rattle.um_syntax.specs.Lexing.{size_of, is_power_place, NothingStands, IsNumberAt, Faulty, Refuses}
-use Rattle.um_syntax.specs.Machine.{single_symbol, double_symbol, takes}
-use Rattle.um_syntax.proofs.Tables.{keyword_letters, are_letters, keyword_parts, single_symbol-text, double_symbol-text}
+use Rattle.um_vocabulary.specs.Tables.{single_symbol, double_symbol}
+use Rattle.um_syntax.specs.Machine.{takes}
+use Rattle.um_syntax.proofs.WordLetters.{keyword_letters, are_letters, keyword_parts}
+use Rattle.um_vocabulary.proofs.Tables.{single_symbol-text, double_symbol-text}
 use Rattle.um_syntax.proofs.Texts.{identifier_read}
 use Rattle.um_syntax.proofs.Closing.{scan_at, snoc_same}
 use Rattle.um_syntax.proofs.Reading.{run, run_on, run_stop, free, gap_run, begin_quote, begin_symbol, variable_at, first_letter}

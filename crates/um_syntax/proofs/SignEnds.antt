@@ -1,11 +1,11 @@
 -- Where the text of a sign ends: no longer sign and no comment stands there with the next character.
 use Rattle.std.proofs.Common.{◌≡◌, ◌≢◌, ℕ, Bool, false, ◌==◌, ◌||◌, ◌&&◌, List, [], ◌∷◌, Option, Some, is_some, sym, ap, ◌∙◌, subst, ⊎_elim}
 use Rattle.std.proofs.lemmas.Bool.{false≢true}
-use Rattle.um_syntax.specs.declared.vocabulary.Symbol.{Symbol}
-use Rattle.um_syntax.specs.Vocabulary.{symbol_text}
+use Rattle.um_vocabulary.specs.declared.vocabulary.Symbol.{Symbol}
+use Rattle.um_vocabulary.specs.Vocabulary.{symbol_text}
 use Rattle.um_syntax.specs.Lexeme.{SignEnds}
-use Rattle.um_syntax.specs.Machine.{double_symbol}
-use Rattle.um_syntax.proofs.Tables.{symbol_form, symbol_text-double, symbol_text-three}
+use Rattle.um_vocabulary.specs.Tables.{double_symbol}
+use Rattle.um_vocabulary.proofs.Tables.{symbol_form, symbol_text-double, symbol_text-three}
 use Rattle.um_syntax.proofs.Closing.{or_false}
 
 -- a longer sign or a comment stands where this character follows the text of a sign

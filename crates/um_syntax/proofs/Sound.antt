@@ -22,7 +22,7 @@ use Rattle.um_syntax.proofs.Digits.{figures_of}
 use Rattle.um_syntax.proofs.Meaning.{Means}
 use Rattle.um_syntax.proofs.Closing.{tail_of, Pends, CloseMeans, scan_at, close_identifier, close_quote, close_variable, close_number, close_symbol, number_tail}
 use Rattle.um_syntax.proofs.Taking.{TakeMeans, take_sound, BeginMeans, begin_sound}
-use Rattle.um_syntax.proofs.Bools.{and_parts}
+use Rattle.um_vocabulary.proofs.Bools.{and_parts}
 
 abbrev pub is_comment : Pending → Bool
 is_comment pending.Comment = true

@@ -5,7 +5,7 @@ use Rattle.std.proofs.lemmas.Str.{encodes-append}
 use Rattle.std.specs.Char.{is_ascii_digit, len_utf8}
 use lib.Utf8.{encode, encodes}
 use Rattle.unicode_ident.specs.Ident.{is_xid_continue}
-use Rattle.um_syntax.specs.declared.vocabulary.Symbol.{Symbol}
+use Rattle.um_vocabulary.specs.declared.vocabulary.Symbol.{Symbol}
 use Rattle.um_syntax.specs.declared.token.Kind.TheVariants as kind
 use Rattle.um_syntax.specs.declared.token.Token.{Token}
 use Rattle.um_syntax.specs.declared.token.LexStop.{LexStop}
@@ -14,18 +14,19 @@ use Rattle.um_syntax.specs.declared.number.Part.{Part}
 use Rattle.um_syntax.specs.declared.number.Part.TheVariants as part
 use Rattle.um_syntax.specs.declared.pending.Pending.{Pending}
 use Rattle.um_syntax.specs.declared.pending.Pending.TheVariants as pending
-use Rattle.um_syntax.specs.Vocabulary.{symbol_text}
+use Rattle.um_vocabulary.specs.Vocabulary.{symbol_text}
 use Rattle.um_syntax.specs.Gap.{is_space, IsLine, nothing, space, comment}
 use Rattle.um_syntax.specs.Numeral.{Numeral, Whole, Decimal, Ratio, numeral_text, IsNumeral, IsDigits}
 use Rattle.um_syntax.specs.Lexeme.{starts_name, AllContinue, IsIdentifier, Sign, SignEnds}
 use Rattle.um_syntax.specs.Lexing.{size_of}
-use Rattle.um_syntax.specs.Machine.{Scan, single_symbol, double_symbol, part_takes, takes, first_figures, more_figures, part_after_digit, number_taken, symbol_taken, taken, begun}
+use Rattle.um_syntax.specs.Machine.{Scan, part_takes, takes, first_figures, more_figures, part_after_digit, number_taken, symbol_taken, taken, begun}
+use Rattle.um_vocabulary.specs.Tables.{single_symbol, double_symbol}
 use Rattle.um_syntax.proofs.Digits.{figures_of, figures-first, figures-whole, figures-point, figures-decimal, figures-over, figures-ratio, AreDigits-append}
-use Rattle.um_syntax.proofs.Tables.{double_symbol-first, double_symbol-text, symbol_text-three}
+use Rattle.um_vocabulary.proofs.Tables.{double_symbol-first, double_symbol-text, symbol_text-three}
 use Rattle.um_syntax.proofs.Texts.{nothing_at}
 use Rattle.um_syntax.proofs.Meaning.{Means, skip, next_token, faulty_here, token_here}
 use Rattle.um_syntax.proofs.Closing.{tail_of, FitsPart, Pends, scan_at, size_of-snoc, append_nil}
-use Rattle.um_syntax.proofs.Bools.{and_parts}
+use Rattle.um_vocabulary.proofs.Bools.{and_parts}
 
 -- The state after a character means what the state before it meant.
 abbrev pub TakeMeans : List Token → ℕ → List ℕ → ℕ → List ℕ → Scan → Type 0

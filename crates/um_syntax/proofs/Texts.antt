@@ -7,15 +7,17 @@ use Rattle.std.specs.Str.{bytes_eq}
 use Rattle.std.specs.Char.{is_ascii_digit}
 use lib.Utf8.{encodes}
 use Rattle.unicode_ident.specs.Ident.{is_xid_continue}
-use Rattle.um_syntax.specs.declared.vocabulary.Keyword.{Keyword}
+use Rattle.um_vocabulary.specs.declared.vocabulary.Keyword.{Keyword}
 use Rattle.um_syntax.specs.declared.token.Kind.TheVariants as kind
-use Rattle.um_syntax.specs.Vocabulary.{keyword_text}
+use Rattle.um_vocabulary.specs.Vocabulary.{keyword_text}
 use Rattle.um_syntax.specs.Gap.{is_space}
 use Rattle.um_syntax.specs.Numeral.{Whole, Decimal, Ratio, IsDigits}
 use Rattle.um_syntax.specs.Lexeme.{starts_name, IsIdentifier, IsWord, IsName, Lexeme, Name, Var, Number, Word, Hole, Sign, text_of, IsLexeme, begins, Ends, IsAlone, kind_of}
 use Rattle.um_syntax.specs.Lexing.{NothingStands}
-use Rattle.um_syntax.specs.Machine.{keyword_of, single_symbol, double_symbol, letters_kind, word_kind}
-use Rattle.um_syntax.proofs.Tables.{keyword_of-text, keyword_of-none, keyword_encoded, keyword_identifier, symbol_form}
+use Rattle.um_vocabulary.specs.Tables.{keyword_of, single_symbol, double_symbol}
+use Rattle.um_syntax.specs.Machine.{letters_kind, word_kind}
+use Rattle.um_vocabulary.proofs.Tables.{keyword_of-text, symbol_form}
+use Rattle.um_syntax.proofs.WordLetters.{keyword_of-none, keyword_encoded, keyword_identifier}
 
 -- the first character of a token's text, and what it tells
 abbrev pub HasHead : Lexeme → ℕ → List ℕ → Type 0

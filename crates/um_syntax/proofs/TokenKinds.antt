@@ -4,8 +4,8 @@ use Rattle.um_frac.specs.declared.number.Frac.{Frac}
 use Rattle.um_syntax.specs.declared.token.Kind.{Kind}
 use Rattle.um_syntax.specs.declared.token.Kind.TheVariants as kind
 use Rattle.um_syntax.specs.declared.token.Token.{Token}
-use Rattle.um_syntax.specs.declared.vocabulary.Keyword.{Keyword}
-use Rattle.um_syntax.specs.declared.vocabulary.Symbol.{Symbol}
+use Rattle.um_vocabulary.specs.declared.vocabulary.Keyword.{Keyword}
+use Rattle.um_vocabulary.specs.declared.vocabulary.Symbol.{Symbol}
 use Rattle.um_syntax.specs.Numeral.{Numeral, numeral_text, number_value}
 use Rattle.um_syntax.specs.Lexeme.{IsName, Lexeme, Name, Var, Number, Word, Hole, Sign, text_of, IsLexeme, is_whole, kind_of}
 use Rattle.um_syntax.specs.Lexing.{Lexes, HasTokens, is_power_place, body, body_place}

@@ -9,7 +9,7 @@ use Rattle.um_syntax.specs.declared.token.Kind.TheVariants as kind
 use Rattle.um_syntax.specs.declared.token.Token.{Token}
 use Rattle.um_syntax.specs.declared.token.LexStop.{LexStop}
 use Rattle.um_syntax.specs.declared.token.LexStop.TheVariants.{BadChar, NumberRange, PowerText, NoMemory}
-use Rattle.um_syntax.specs.declared.vocabulary.Symbol.TheVariants as symbol
+use Rattle.um_vocabulary.specs.declared.vocabulary.Symbol.TheVariants as symbol
 use Rattle.um_syntax.specs.Gap.{is_space, IsGap, IsLastGap}
 use Rattle.um_syntax.specs.Numeral.{Numeral, numeral_text, IsNumeral}
 use Rattle.um_syntax.specs.Lexeme.{Lexeme, Number, text_of, IsLexeme, begins, NumeralEnds, Ends, IsAlone, kind_of}

@@ -1,6 +1,5 @@
--- To be trusted, in reading order: the vocabulary, what is skipped, numbers, the texts of tokens, the tokens of a text,
--- what holds of them, lines and columns.
-pub mod Vocabulary
+-- To be trusted, in reading order: what is skipped, numbers, the texts of tokens, the tokens of a text, what holds of
+-- them, lines and columns.
 pub mod Gap
 pub mod Numeral
 pub mod Lexeme

@@ -21,10 +21,9 @@ mod place;
 mod preceding;
 mod scanner;
 mod token;
-mod vocabulary;
 
 pub use feed::Lexer;
 pub use lexer::lex;
 pub use place::line_column;
 pub use token::{Kind, Letters, LexStop, NoMemory, TextStop, Token, Tokens};
-pub use vocabulary::{Keyword, Symbol};
+pub use um_vocabulary::{Keyword, Symbol};

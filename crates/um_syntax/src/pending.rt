@@ -7,7 +7,7 @@ ghost use Rattle.um_syntax.specs.Machine.{ends_in_digit, number_taken, FiguresFi
 ghost use Rattle.um_syntax.specs.declared.pending.Pending.TheVariants as pending;
 
 use crate::number::{Figures, Part};
-use crate::vocabulary::double_symbol;
+use um_vocabulary::double_symbol;
 use unicode_ident::{is_xid_continue, is_xid_start};
 
 /// What has been read of the token that may go on, with the place where it starts.

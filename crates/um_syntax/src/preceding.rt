@@ -4,7 +4,7 @@ ghost use Rattle.std.specs.Option.{option_copied};
 ghost use Rattle.um_syntax.specs.Lexing.{is_glued, is_power_place, is_caret, is_minus};
 
 use crate::token::{Kind, Token};
-use crate::vocabulary::Symbol;
+use um_vocabulary::Symbol;
 
 // Whether the token is `^`.
 fn is_caret(token: Option<&Token>) -> bool

@@ -16,10 +16,8 @@ use crate::pending::{
 };
 use crate::preceding::{is_glued, is_power_place};
 use crate::token::{Kind, Letters, LexStop, Token, Tokens};
-use crate::vocabulary::{
-    Symbol, are_slashes, double_symbol, front_symbol, keyword_of, single_symbol,
-};
 use std::alloc::{AllocError, Global};
+use um_vocabulary::{Symbol, are_slashes, double_symbol, front_symbol, keyword_of, single_symbol};
 use unicode_ident::is_xid_continue;
 
 /// The state between two characters.

@@ -2,13 +2,13 @@
 ghost use Rattle.std.specs.Prelude.{◌≡◌, ◌≤◌, ℕ, List, [], length, take, IfOk};
 ghost use Rattle.um_syntax.specs.declared.token.LexStop.TheVariants.{NoMemory};
 
-use crate::vocabulary::{Keyword, Symbol};
 use std::alloc::{AllocError, Global};
 use std::marker::Model;
 use std::mem;
 use thiserror::Error;
 use um_frac::Frac;
 use um_inline::InlineBytes;
+use um_vocabulary::{Keyword, Symbol};
 
 /// Want of memory, as the only error of a call.
 pub type NoMemory = AllocError;

@@ -1,6 +1,6 @@
 // The texts of words.
 ghost use Rattle.std.specs.Prelude.{◌≡◌};
-ghost use Rattle.um_syntax.specs.Vocabulary.{keyword_text, symbol_text};
+ghost use Rattle.um_vocabulary.specs.Vocabulary.{keyword_text, symbol_text};
 ghost use Rattle.um_expected.specs.Words.{word_text};
 ghost use Rattle.um_text_details.specs.SyntaxDetails.{is_in_word};
 

@@ -6,7 +6,7 @@ use Rattle.std.proofs.lemmas.Option.{slice_get-map}
 use Rattle.std.specs.Char.{is_ascii_digit}
 use Rattle.um_syntax.specs.declared.token.Kind.{Kind}
 use Rattle.um_syntax.specs.declared.token.Token.{Token}
-use Rattle.um_syntax.specs.declared.vocabulary.Symbol.{Symbol}
+use Rattle.um_vocabulary.specs.declared.vocabulary.Symbol.{Symbol}
 use Rattle.um_syntax.specs.Gap.{IsGap, closed}
 use Rattle.um_syntax.specs.Lexeme.{Lexeme, Name, Var, Number, Word, Hole, Sign, text_of, begins, kind_of}
 use Rattle.um_syntax.specs.Lexing.{size_of, is_glued, is_caret_kind, is_minus_kind, is_caret, is_minus, is_power_place, IsNext, Lexes}

@@ -7,13 +7,13 @@ use Rattle.unicode_ident.proofs.IdentLemmas.{is_xid_continue-ascii}
 use Rattle.um_frac.specs.declared.number.Frac.{Frac}
 use Rattle.um_syntax.specs.declared.token.Kind.{Kind}
 use Rattle.um_syntax.specs.declared.token.Kind.TheVariants as kind
-use Rattle.um_syntax.specs.declared.vocabulary.Symbol.{Symbol}
-use Rattle.um_syntax.specs.declared.vocabulary.Symbol.TheVariants as symbol
-use Rattle.um_syntax.specs.Vocabulary.{symbol_text}
+use Rattle.um_vocabulary.specs.declared.vocabulary.Symbol.{Symbol}
+use Rattle.um_vocabulary.specs.declared.vocabulary.Symbol.TheVariants as symbol
+use Rattle.um_vocabulary.specs.Vocabulary.{symbol_text}
 use Rattle.um_syntax.specs.Numeral.{Whole, Decimal, Ratio, number_value, numeral_text}
 use Rattle.um_syntax.specs.Lexeme.{starts_name, Lexeme, Name, Var, Number, Word, Hole, Sign, text_of, IsLexeme, begins, begins_part, SignEnds, Ends, IsAlone, is_whole, kind_of}
-use Rattle.um_syntax.specs.Machine.{double_symbol, double_symbols, found_pair}
-use Rattle.um_syntax.proofs.Tables.{symbol_form}
+use Rattle.um_vocabulary.specs.Tables.{double_symbol, double_symbols, found_pair}
+use Rattle.um_vocabulary.proofs.Tables.{symbol_form}
 use Rattle.um_syntax.proofs.Texts.{head_of}
 use Rattle.um_syntax.proofs.Reading.{ascii_no_name, digit_no_name}
 use Rattle.um_syntax.proofs.Closing.{or_false}

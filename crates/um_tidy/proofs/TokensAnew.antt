@@ -12,12 +12,12 @@ use Rattle.unicode_ident.specs.Ident.{is_xid_start}
 use Rattle.unicode_ident.proofs.Computing.{unicode_ident}
 use Rattle.um_syntax.specs.declared.token.Token.{Token}
 use Rattle.um_syntax.specs.Gap.{is_space, IsGap, nothing, space, comment, closed}
-use Rattle.um_syntax.specs.Vocabulary.{symbol_text}
+use Rattle.um_vocabulary.specs.Vocabulary.{symbol_text}
 use Rattle.um_syntax.specs.Lexeme.{starts_name, Lexeme, Name, Var, Number, Word, Hole, Sign, text_of, IsLexeme, begins}
 use Rattle.um_syntax.specs.Feeding.{IsTextAnswer}
 use Rattle.um_syntax.specs.Lexing.{size_of, body, body_place, Lexes, HasTokens}
 use Rattle.um_syntax.proofs.Places.{size_of-encodes}
-use Rattle.um_syntax.proofs.Tables.{symbol_form}
+use Rattle.um_vocabulary.proofs.Tables.{symbol_form}
 use Rattle.um_syntax.proofs.Texts.{head_of}
 use Rattle.um_tidy.specs.declared.stand.Stand.{Stand}
 use Rattle.um_tidy.specs.Stands.{start, stand_of}

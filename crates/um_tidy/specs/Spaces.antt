@@ -3,8 +3,8 @@
 use Rattle.std.specs.Prelude.{Bool, true, false, ◌||◌, not}
 use Rattle.um_syntax.specs.declared.token.Kind.{Kind}
 use Rattle.um_syntax.specs.declared.token.Kind.TheVariants as kind
-use Rattle.um_syntax.specs.declared.vocabulary.Symbol.{Symbol}
-use Rattle.um_syntax.specs.declared.vocabulary.Symbol.TheVariants as symbol
+use Rattle.um_vocabulary.specs.declared.vocabulary.Symbol.{Symbol}
+use Rattle.um_vocabulary.specs.declared.vocabulary.Symbol.TheVariants as symbol
 use Rattle.um_tidy.specs.declared.stand.Stand.{Stand}
 
 -- A longer sign or a comment begins with the first sign, and the second goes on with it.

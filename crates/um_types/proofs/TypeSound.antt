@@ -3,8 +3,8 @@ use Rattle.std.proofs.Common.{◌≡◌, ◌≢◌, ℕ, zero, suc, List, [], �
 use Rattle.um_syntax.specs.declared.token.Token.{Token}
 use Rattle.um_syntax.specs.declared.token.Kind.{Kind}
 use Rattle.um_syntax.specs.declared.token.Kind.TheVariants as kind
-use Rattle.um_syntax.specs.declared.vocabulary.Keyword.TheVariants as keyword
-use Rattle.um_syntax.specs.declared.vocabulary.Symbol.TheVariants as symbol
+use Rattle.um_vocabulary.specs.declared.vocabulary.Keyword.TheVariants as keyword
+use Rattle.um_vocabulary.specs.declared.vocabulary.Symbol.TheVariants as symbol
 use Rattle.um_tree.specs.RawTree.{NoteSyntax, TypeSyntax, bool_syntax, num_syntax, record_syntax, list_type_syntax, bracket_type_syntax}
 use Rattle.um_types.specs.UnitMachine.{State}
 use Rattle.um_types.specs.TypeGrammar.{FirstSign, FirstWord, FirstKindAt, FirstName, NoteSpells, NotesSpell, AngledSpell, TypeSpells, NoteFits, NotesFit, TypeFits}

@@ -4,7 +4,7 @@ use Rattle.um_syntax.specs.declared.token.Token.{Token}
 use Rattle.um_tree.specs.RawTree.{UnitSyntax, one_syntax, measure_syntax, variable_syntax, power_syntax, side_syntax, times_syntax, over_syntax, inverse_syntax, bracket_syntax, units_in_order}
 use Rattle.um_tree.specs.Heights.{unit_height, tallest_unit}
 use Rattle.um_types.specs.UnitTokens.{UnitToken, sign, measure, variable, number, unit_token}
-use Rattle.um_syntax.specs.declared.vocabulary.Symbol.TheVariants as symbol
+use Rattle.um_vocabulary.specs.declared.vocabulary.Symbol.TheVariants as symbol
 use Rattle.um_types.specs.UnitMachine.{Frame, InBracket, InInverse, InTimes, InOver, InSide, State, Need, Have, Raised, Lowered, Refused, opens, reduce, juxtapose, begin, times_after, over_after, close_after, raise, after, raised, lowered, act, whole, unit_step, finish}
 use Rattle.um_types.specs.UnitLeast.{side, least_over, least}
 use Rattle.um_types.proofs.UnitLaws.{filled, all_filled, completed}

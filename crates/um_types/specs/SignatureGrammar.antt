@@ -8,7 +8,7 @@ use Rattle.um_reader.specs.Stops.{Fails, HighAt}
 use Rattle.um_types.specs.UnitStops.{greatest_height}
 use Rattle.um_types.specs.TypeGrammar.{FirstSign, TypeSpells, TypeFits}
 use Rattle.um_types.specs.TypeHeights.{all_height}
-use Rattle.um_syntax.specs.declared.vocabulary.Symbol.TheVariants as symbol
+use Rattle.um_vocabulary.specs.declared.vocabulary.Symbol.TheVariants as symbol
 
 -- the tokens are those of the types, and then the rest
 abbrev pub TypesSpell : List TypeSyntax → List Token → List Token → Type 0

@@ -7,7 +7,7 @@ use Rattle.um_units.specs.PowerMap.{PowerMap}
 use Rattle.um_syntax.specs.declared.token.Token.{Token}
 use Rattle.um_syntax.specs.declared.token.Kind.{Kind}
 use Rattle.um_syntax.specs.declared.token.Kind.TheVariants as kind
-use Rattle.um_syntax.specs.declared.vocabulary.Symbol.TheVariants as symbol
+use Rattle.um_vocabulary.specs.declared.vocabulary.Symbol.TheVariants as symbol
 use Rattle.um_tree.specs.RawTree.{hole_syntax, unit_note_syntax, measure_syntax}
 use Rattle.um_tree.specs.TypeTree.{num_shape, list_shape}
 use Rattle.um_reader.specs.Machine.{reached}

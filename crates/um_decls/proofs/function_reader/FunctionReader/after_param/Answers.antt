@@ -1,7 +1,7 @@
 use Rattle.std.proofs.Common.{◌≡◌, is_ok, Some, [], ◌∷◌, ◌++◌, map, ap, ◌∙◌, arith, rules}
 use Rattle.std.proofs.lemmas.List.{map-append}
 use Rattle.um_syntax.specs.declared.token.Kind.TheVariants as kind
-use Rattle.um_syntax.specs.declared.vocabulary.Symbol.TheVariants as symbol
+use Rattle.um_vocabulary.specs.declared.vocabulary.Symbol.TheVariants as symbol
 use Rattle.um_tree.specs.RawTree.{param_syntax}
 use Rattle.um_types.specs.TypeView.{type_state}
 use Rattle.um_forms.specs.ExprTokens.{expr_token}

@@ -1,6 +1,6 @@
 use Rattle.std.proofs.Common.{◌≡◌, Some, [], ◌∷◌, ◌++◌, ap, arith, rules}
 use Rattle.um_syntax.specs.declared.token.Kind.TheVariants as kind
-use Rattle.um_syntax.specs.declared.vocabulary.Symbol.TheVariants as symbol
+use Rattle.um_vocabulary.specs.declared.vocabulary.Symbol.TheVariants as symbol
 use Rattle.um_tree.specs.RawTree.{field_decl_syntax}
 use Rattle.um_forms.specs.ExprTokens.{expr_token}
 use Rattle.um_decls.specs.DeclMachine.{NoDecl, Expects, FieldName, HaveRecord, field_ends}

@@ -1,6 +1,6 @@
 use Rattle.std.proofs.Common.{◌≡◌, false, sym, ap, ◌∙◌, arith, rules}
 use Rattle.um_syntax.specs.declared.token.Kind.TheVariants as kind
-use Rattle.um_syntax.specs.declared.vocabulary.Keyword.TheVariants as keyword
+use Rattle.um_vocabulary.specs.declared.vocabulary.Keyword.TheVariants as keyword
 use Rattle.um_forms.specs.ExprTokens.{expr_token}
 use Rattle.um_decls.specs.DeclMachine.{DeclBegin, LetName, RecName, FunctionVars, NoDecl, Expects, take_expected}
 use Rattle.um_parse.specs.ReaderStates.{place_state}

@@ -4,7 +4,7 @@ use Rattle.std.proofs.lemmas.List.{nil_from_length}
 use Rattle.std.specs.String.{string_bytes, string_len}
 use Rattle.um_syntax.specs.declared.pending.Pending.TheVariants as pending
 use Rattle.um_syntax.specs.Scanning.{scan_of, Scans}
-use Rattle.um_syntax.proofs.Bools.{and_parts}
+use Rattle.um_vocabulary.proofs.Bools.{and_parts}
 use Rattle.um_syntax.proofs.Closing.{scan_at}
 use Rattle.um_syntax.proofs.AtOnce.{scans_none, scans_slashes, two_front}
 use Rattle.um_syntax.proofs.scanner.Scanner.scan_free.Goals as goal

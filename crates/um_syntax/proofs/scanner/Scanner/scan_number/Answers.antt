@@ -6,7 +6,7 @@ use Rattle.um_syntax.specs.declared.pending.Pending.TheVariants as pending
 use Rattle.um_syntax.specs.Lexing.{is_power_place}
 use Rattle.um_syntax.specs.Machine.{AllKept, IsNumberRun, ends_number, ends_in_digit, figures_kind}
 use Rattle.um_syntax.specs.Scanning.{scan_of}
-use Rattle.um_syntax.proofs.Bools.{and_parts}
+use Rattle.um_vocabulary.proofs.Bools.{and_parts}
 use Rattle.um_syntax.proofs.AtOnce.{scans_none, scans_number, behind_number, put_scans}
 use Rattle.um_syntax.proofs.scanner.Scanner.scan_number.Goals as goal
 

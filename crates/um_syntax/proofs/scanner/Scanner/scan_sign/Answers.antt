@@ -1,6 +1,6 @@
 use Rattle.std.proofs.Common.{rules, ◌≡◌, ◌<◌, length, drop, get_or, sym, ap, ◌∙◌, arith}
 use Rattle.std.specs.String.{string_bytes}
-use Rattle.um_syntax.specs.Machine.{front_symbol}
+use Rattle.um_vocabulary.specs.Tables.{front_symbol}
 use Rattle.um_syntax.specs.Scanning.{scan_of}
 use Rattle.um_syntax.proofs.AtOnce.{scans_none, scans_symbol, two_front, put_scans}
 use Rattle.um_syntax.proofs.scanner.Scanner.scan_sign.Goals as goal

@@ -3,7 +3,8 @@ use Rattle.std.specs.Str.{bytes_eq}
 use Rattle.std.specs.String.{string_bytes}
 use Rattle.um_syntax.specs.declared.token.Kind.{Kind}
 use Rattle.um_syntax.specs.declared.token.Kind.TheVariants as kind
-use Rattle.um_syntax.specs.Machine.{IsNameRun, ends_name, keyword_of, free_at, pushed}
+use Rattle.um_syntax.specs.Machine.{IsNameRun, ends_name, free_at, pushed}
+use Rattle.um_vocabulary.specs.Tables.{keyword_of}
 use Rattle.um_syntax.specs.Scanning.{scan_of, Scans}
 use Rattle.um_syntax.proofs.AtOnce.{scans_none, scans_variable, behind_name, put_scans, quote_boundary, none_of}
 use Rattle.um_syntax.proofs.scanner.Scanner.scan_variable.Goals as goal

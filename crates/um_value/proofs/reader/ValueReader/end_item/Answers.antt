@@ -1,6 +1,6 @@
 use Rattle.std.proofs.Common.{rules, ◌≡◌, map, ap}
 use Rattle.um_syntax.specs.declared.token.Kind.TheVariants as kind
-use Rattle.um_syntax.specs.declared.vocabulary.Symbol.TheVariants as symbol
+use Rattle.um_vocabulary.specs.declared.vocabulary.Symbol.TheVariants as symbol
 use Rattle.um_value.specs.declared.raw.RawValue.{the_lemmas}
 use Rattle.um_value.specs.ValueSyntax.{raw_list, raws_in_order, value_syntax}
 use Rattle.um_value.specs.ValueMachine.{Have, item_end}

@@ -1,7 +1,7 @@
 use Rattle.std.proofs.Common.{rules, ◌≡◌, List, map, ap, ◌∙◌}
 use Rattle.um_syntax.specs.declared.token.Kind.{Kind}
 use Rattle.um_syntax.specs.declared.token.Kind.TheVariants as kind
-use Rattle.um_syntax.specs.declared.vocabulary.Symbol.TheVariants as symbol
+use Rattle.um_vocabulary.specs.declared.vocabulary.Symbol.TheVariants as symbol
 use Rattle.um_tree.specs.ProgramTree.{record_tree}
 use Rattle.um_value.specs.declared.raw.RawValue.{RawValue, the_lemmas}
 use Rattle.um_value.specs.ValueSyntax.{raw_list, raw_none, raws_in_order, value_syntax}

@@ -1,7 +1,7 @@
 //! The reserved words and the symbols of the language, with the table of their texts.
 ghost use Rattle.std.specs.Prelude.{◌≡◌, ◌==◌, ◌&&◌};
-ghost use Rattle.um_syntax.specs.Machine.{keyword_of, keywords, found_keyword, of_len, single_symbol, double_symbol};
-ghost use Rattle.um_syntax.specs.Machine.{front_symbol};
+ghost use Rattle.um_vocabulary.specs.Tables.{keyword_of, keywords, found_keyword, of_len, single_symbol, double_symbol};
+ghost use Rattle.um_vocabulary.specs.Tables.{front_symbol};
 
 /// A reserved word.
 #[derive(Clone, Copy, Debug)]

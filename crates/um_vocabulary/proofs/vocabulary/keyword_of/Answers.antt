@@ -1,8 +1,8 @@
 use Rattle.std.proofs.Common.{length, refl, sym, ◌∙◌}
 use Rattle.std.proofs.lemmas.Bool.{ne_eqb}
-use Rattle.um_syntax.specs.Machine.{keywords}
-use Rattle.um_syntax.proofs.Keywords.{found_by_len, none_found}
-use Rattle.um_syntax.proofs.vocabulary.keyword_of.Goals as goal
+use Rattle.um_vocabulary.specs.Tables.{keywords}
+use Rattle.um_vocabulary.proofs.Keywords.{found_by_len, none_found}
+use Rattle.um_vocabulary.proofs.vocabulary.keyword_of.Goals as goal
 
 pub returns-then-len-eq2 : goal.returns-then-len-eq2
 returns-then-len-eq2 c = c.of_two.ensures ∙ sym (found_by_len 2 c.args.letters.now keywords c.if-len-eq2.true)

@@ -3,9 +3,9 @@ use Rattle.std.proofs.Common.{◌≡◌, ℕ, Bool, true, false, cond, eqb, List
 use Rattle.std.proofs.lemmas.Bool.{false≢true, eq-eqb}
 use Rattle.std.proofs.lemmas.Slice.Eq.{bytes_eq-Decides}
 use Rattle.std.specs.Str.{bytes_eq}
-use Rattle.um_syntax.specs.declared.vocabulary.Keyword.{Keyword}
-use Rattle.um_syntax.specs.Vocabulary.{keyword_text}
-use Rattle.um_syntax.specs.Machine.{found_keyword, keywords, of_len}
+use Rattle.um_vocabulary.specs.declared.vocabulary.Keyword.{Keyword}
+use Rattle.um_vocabulary.specs.Vocabulary.{keyword_text}
+use Rattle.um_vocabulary.specs.Tables.{found_keyword, keywords, of_len}
 
 other_len : (letters text : List ℕ) → (length letters ≡ length text → ⊥) → bytes_eq letters text ≡ false
 other_len letters text differ = by_case (bytes_eq letters text) refl
