@@ -5,7 +5,7 @@ use Rattle.um_tree.specs.declared.raw.RawFieldDecl.{RawFieldDecl}
 use Rattle.um_tree.specs.declared.raw.RawParam.{RawParam}
 use Rattle.um_tree.specs.RawTree.{FieldDeclSyntax, ParamSyntax, type_syntax, field_decl_syntax, param_syntax}
 use Rattle.um_types.specs.TypeHeights.{whole_height}
-use Rattle.um_types.specs.UnitStops.{greatest_height}
+use Rattle.um_unit_texts.specs.UnitStops.{greatest_height}
 use Rattle.um_decls.specs.DeclHeights.{fields_height, params_height}
 
 pub fields_height_last : (fs : List FieldDeclSyntax) (f : FieldDeclSyntax) → fields_height (fs ++ f ∷ []) ≡ max (fields_height fs) (whole_height f.type)

@@ -3,7 +3,7 @@ use Rattle.std.proofs.Common.{◌≡◌, ◌≢◌, ◌≤◌, List, sym, ap, �
 use Rattle.um_tree.specs.RawTree.{VarSyntax}
 use Rattle.um_reader.specs.Takes.{Gives}
 use Rattle.um_reader.specs.declared.taken.Taken.TheVariants as taken
-use Rattle.um_types.specs.UnitStops.{greatest_height}
+use Rattle.um_unit_texts.specs.UnitStops.{greatest_height}
 use Rattle.um_decls.specs.DeclMachine.{DeclState, VarOwner, NoDecl}
 use Rattle.um_decls.specs.DeclLeast.{expected_least, decl_least, machine_of_declarations}
 use Rattle.um_decls.specs.DeclViews.{view_fixed_var, view_var}

@@ -11,7 +11,7 @@ use Rattle.um_reader.specs.declared.taken.Taken.{Taken}
 use Rattle.um_reader.specs.declared.taken.Taken.TheVariants as taken
 use Rattle.um_types.specs.TypeHeights.{whole_height}
 use Rattle.um_types.specs.TypeMachine.{TypeState, type_finish, type_least, machine_of_types}
-use Rattle.um_types.specs.UnitStops.{greatest_height}
+use Rattle.um_unit_texts.specs.UnitStops.{greatest_height}
 use Rattle.um_types.proofs.TypeLaws.{type_found_height}
 use Rattle.um_operands.specs.ExprBegun.{State, Refused}
 use Rattle.um_forms.specs.ExprTokens.{expr_token}

@@ -4,7 +4,7 @@ use Rattle.std.specs.Prelude.{ℕ, max}
 use Rattle.um_syntax.specs.declared.token.Token.{Token}
 use Rattle.um_reader.specs.Machine.{Machine}
 use Rattle.um_tree.specs.RawTree.{DeclSyntax}
-use Rattle.um_types.specs.UnitLeast.{least}
+use Rattle.um_unit_texts.specs.UnitLeast.{least}
 use Rattle.um_types.specs.TypeMachine.{type_least}
 use Rattle.um_operands.specs.ExprLeast.{whole_least}
 use Rattle.um_decls.specs.DeclHeights.{fields_height, params_height, result_height}

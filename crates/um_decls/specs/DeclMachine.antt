@@ -8,9 +8,9 @@ use Rattle.um_tree.specs.declared.expression.Sign.TheVariants as compare
 use Rattle.um_tree.specs.RawTree.{UnitSyntax, TypeSyntax, BinderSyntax, ExprSyntax, VarSyntax, FieldDeclSyntax}
 use Rattle.um_tree.specs.RawTree.{ParamSyntax, DeclSyntax, base_syntax, short_syntax, record_decl_syntax}
 use Rattle.um_tree.specs.RawTree.{FunctionSyntax, function_syntax}
-use Rattle.um_types.specs.UnitTokens.{unit_token}
-use Rattle.um_types.specs.UnitMachine.{State as UnitState, Need as NeedUnit, Refused as NoUnit, act as unit_act}
-use Rattle.um_types.specs.UnitMachine.{finish as unit_finish}
+use Rattle.um_unit_texts.specs.UnitTokens.{unit_token}
+use Rattle.um_unit_texts.specs.UnitMachine.{State as UnitState, Need as NeedUnit, Refused as NoUnit, act as unit_act}
+use Rattle.um_unit_texts.specs.UnitMachine.{finish as unit_finish}
 use Rattle.um_types.specs.TypeMachine.{TypeState, NeedType, NoType, type_act, type_finish}
 use Rattle.um_vocabulary.specs.declared.vocabulary.Keyword.TheVariants as keyword
 use Rattle.um_vocabulary.specs.declared.vocabulary.Symbol.TheVariants as symbol

@@ -1,9 +1,9 @@
 // Tokens as declarations take them: what a reader inside makes of one.
 ghost use Rattle.std.specs.Prelude.{◌≡◌, ◌≤◌, IfOk};
 ghost use Rattle.um_reader.specs.Takes.{Takes};
-ghost use Rattle.um_types.specs.UnitStops.{greatest_height};
-ghost use Rattle.um_types.specs.UnitLeast.{machine_of_units};
-ghost use Rattle.um_types.specs.UnitView.{unit_state};
+ghost use Rattle.um_unit_texts.specs.UnitStops.{greatest_height};
+ghost use Rattle.um_unit_texts.specs.UnitLeast.{machine_of_units};
+ghost use Rattle.um_unit_texts.specs.UnitView.{unit_state};
 ghost use Rattle.um_types.specs.TypeMachine.{type_least, machine_of_types};
 ghost use Rattle.um_types.specs.TypeView.{type_state};
 ghost use Rattle.um_decls.specs.DeclTokens.{BeginsAlike, IfStops};
@@ -11,7 +11,8 @@ ghost use Rattle.um_decls.specs.DeclTokens.{BeginsAlike, IfStops};
 use std::alloc::{AllocError, Global};
 use um_reader::{Reader, Taken};
 use um_syntax::Token;
-use um_types::{TypeReader, UnitReader};
+use um_types::TypeReader;
+use um_unit_texts::UnitReader;
 
 /// One token more of a type, which stays as it was if it is refused.
 pub fn take_in_type(

@@ -10,7 +10,7 @@ use std::alloc::{AllocError, Global};
 use std::mem;
 use um_syntax::{Keyword, Kind, Symbol, Token};
 use um_tree::{RawVar, RawVars};
-use um_types::name_of;
+use um_unit_texts::name_of;
 
 /// The token that is expected among unit parameters, if it is none of them.
 #[derive(Clone, Copy)]

@@ -1,7 +1,7 @@
 // A function after `let`, which is read in place.
 ghost use Rattle.std.specs.Prelude.{◌≡◌, ◌≤◌, [], map};
 ghost use Rattle.um_tree.specs.RawTree.{param_syntax, written_type};
-ghost use Rattle.um_types.specs.UnitStops.{greatest_height};
+ghost use Rattle.um_unit_texts.specs.UnitStops.{greatest_height};
 ghost use Rattle.um_decls.specs.DeclHeights.{params_height, result_height};
 
 use crate::decl_end::push_decl;
@@ -14,7 +14,8 @@ use um_expr::ExprReader;
 use um_reader::{Reader, Taken};
 use um_syntax::{Kind, Symbol, Token};
 use um_tree::{Binder, Name, RawDecl, RawExpr, RawFunction, RawParam, RawParams, RawType};
-use um_types::{TypeReader, name_of};
+use um_types::TypeReader;
+use um_unit_texts::name_of;
 
 /// The body of a function, and its result type, if it has one, not too high.
 #[derive(Drop)]

@@ -1,7 +1,7 @@
 // A record after `type`, which is read in place.
 ghost use Rattle.std.specs.Prelude.{◌≡◌, ◌≤◌, [], map};
 ghost use Rattle.um_tree.specs.RawTree.{field_decl_syntax};
-ghost use Rattle.um_types.specs.UnitStops.{greatest_height};
+ghost use Rattle.um_unit_texts.specs.UnitStops.{greatest_height};
 ghost use Rattle.um_decls.specs.DeclHeights.{fields_height};
 
 use crate::boxed::in_box;
@@ -14,7 +14,8 @@ use std::mem;
 use um_reader::Taken;
 use um_syntax::{Kind, Symbol, Token};
 use um_tree::{Name, RawDecl, RawFieldDecl, RawFieldDecls};
-use um_types::{TypeReader, name_of};
+use um_types::TypeReader;
+use um_unit_texts::name_of;
 
 /// What is expected in a record.
 #[derive(Drop)]

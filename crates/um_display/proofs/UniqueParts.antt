@@ -8,11 +8,11 @@ use Rattle.um_vocabulary.specs.declared.vocabulary.Symbol.TheVariants as symbol
 use Rattle.um_syntax.proofs.Whole.{unique_tokens}
 use Rattle.std.specs.Str.{chars}
 use Rattle.um_tree.specs.RawTree.{UnitSyntax}
-use Rattle.um_types.specs.UnitTokens.{sign, unit_token}
-use Rattle.um_types.specs.UnitGrammar.{IsUnit}
-use Rattle.um_types.specs.UnitMachine.{State, Need, Refused, act, unit_step, run, finish}
-use Rattle.um_types.proofs.ForeignTokens.{foreign_refused}
-use Rattle.um_types.proofs.UnitLaws.{finds}
+use Rattle.um_unit_texts.specs.UnitTokens.{sign, unit_token}
+use Rattle.um_unit_texts.specs.UnitGrammar.{IsUnit}
+use Rattle.um_unit_texts.specs.UnitMachine.{State, Need, Refused, act, unit_step, run, finish}
+use Rattle.um_unit_texts.proofs.ForeignTokens.{foreign_refused}
+use Rattle.um_unit_texts.proofs.UnitLaws.{finds}
 use Rattle.um_display.specs.UnitWords.{PartSyntax, IsWritten, IsNamed, IsSized, IsPartOf, IsPart, ArePartsOf, IsUnitWord, is_equal, texts_in}
 use Rattle.um_display.proofs.WholeUnits.{one_unit}
 use Rattle.um_display.proofs.SizedParts.{sized_as}

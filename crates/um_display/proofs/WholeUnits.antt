@@ -11,8 +11,8 @@ use Rattle.um_reader.specs.Stops.{HasOneReading}
 use Rattle.um_reader.proofs.Readers.{unambiguous}
 use Rattle.um_reader.proofs.Texts.{begins_front}
 use Rattle.um_reader.proofs.Answers.{one_reading}
-use Rattle.um_types.specs.UnitGrammar.{IsUnit}
-use Rattle.um_types.specs.UnitStops.{greatest_height, Reads, Misread, HighAt}
+use Rattle.um_unit_texts.specs.UnitGrammar.{IsUnit}
+use Rattle.um_unit_texts.specs.UnitStops.{greatest_height, Reads, Misread, HighAt}
 use Rattle.um_types.specs.UnitParsed.{Parsed}
 use Rattle.um_types.proofs.ReaderLaws.{units_read}
 use Rattle.um_display.specs.UnitWords.{IsLowUnit}

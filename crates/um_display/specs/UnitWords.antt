@@ -16,8 +16,8 @@ use Rattle.um_syntax.specs.Gap.{is_space}
 use Rattle.um_syntax.specs.Lexing.{HasTokens}
 use Rattle.um_tree.specs.RawTree.{UnitSyntax}
 use Rattle.um_tree.specs.Heights.{unit_height}
-use Rattle.um_types.specs.UnitGrammar.{IsUnit}
-use Rattle.um_types.specs.UnitStops.{greatest_height}
+use Rattle.um_unit_texts.specs.UnitGrammar.{IsUnit}
+use Rattle.um_unit_texts.specs.UnitStops.{greatest_height}
 
 -- ---- the text of a part
 

@@ -9,8 +9,8 @@ use Rattle.um_tree.specs.declared.raw.RawProgram.{RawProgram}
 use Rattle.um_tree.specs.RawTree.{DeclSyntax, program_syntax}
 use Rattle.um_reader.specs.Texts.{BeginsText, BeginsTextWithin}
 use Rattle.um_reader.proofs.Texts.{begins_before, within_before}
-use Rattle.um_types.specs.UnitStops.{greatest_height, place_of}
-use Rattle.um_types.proofs.TokenPlaces.{place_at, place_behind}
+use Rattle.um_unit_texts.specs.UnitStops.{greatest_height, place_of}
+use Rattle.um_unit_texts.proofs.TokenPlaces.{place_at, place_behind}
 use Rattle.um_types.specs.declared.parse.LimitKind.{LimitKind}
 use Rattle.um_types.specs.declared.parse.LimitKind.TheVariants as limit
 use Rattle.um_types.specs.declared.parse.ParseStop.{ParseStop}

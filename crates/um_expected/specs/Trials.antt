@@ -9,7 +9,7 @@ use Rattle.um_syntax.specs.Lexing.{is_power_place}
 use Rattle.um_tree.specs.declared.raw.RawProgram.{RawProgram}
 use Rattle.um_tree.specs.RawTree.{DeclSyntax}
 use Rattle.um_reader.specs.Texts.{BeginsTextWithin}
-use Rattle.um_types.specs.UnitStops.{greatest_height}
+use Rattle.um_unit_texts.specs.UnitStops.{greatest_height}
 use Rattle.um_types.specs.declared.parse.ParseStop.{ParseStop}
 use Rattle.um_types.specs.declared.parse.ParseStop.TheVariants as stop
 use Rattle.um_parse.specs.DeclGrammar.{IsProgram}

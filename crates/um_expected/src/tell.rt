@@ -4,7 +4,7 @@ ghost use Rattle.std.specs.Bool.{Decides};
 ghost use Rattle.um_frac.specs.Fraction.{reduced};
 ghost use Rattle.um_syntax.specs.Lexing.{is_power_place, is_caret, is_minus};
 ghost use Rattle.um_reader.specs.Texts.{BeginsTextWithin};
-ghost use Rattle.um_types.specs.UnitStops.{greatest_height};
+ghost use Rattle.um_unit_texts.specs.UnitStops.{greatest_height};
 ghost use Rattle.um_parse.specs.DeclGrammar.{IsProgram};
 ghost use Rattle.um_parse.specs.ProgramHeights.{program_height};
 ghost use Rattle.um_expected.specs.Expected.{AreExpected, IsExpected, NumberCanStand, AllOperatorsStand};

@@ -13,7 +13,7 @@ use Rattle.um_syntax.proofs.Whole.{unique_tokens, unique_fault, tokens_or_fault}
 use Rattle.um_types.specs.declared.parse.LimitKind.{LimitKind}
 use Rattle.um_types.specs.declared.parse.ParseStop.{ParseStop}
 use Rattle.um_types.specs.declared.parse.ParseStop.TheVariants as parse_stop
-use Rattle.um_types.specs.UnitStops.{place_of}
+use Rattle.um_unit_texts.specs.UnitStops.{place_of}
 use Rattle.um_reader.proofs.Texts.{begins_before}
 use Rattle.um_tree.specs.RawTree.{DeclSyntax}
 use Rattle.um_tree.specs.ProgramTree.{ProgramTree}

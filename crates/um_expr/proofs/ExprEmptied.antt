@@ -7,8 +7,8 @@ use Rattle.um_syntax.specs.declared.token.Token.{Token}
 use Rattle.um_syntax.specs.Emptied.{emptied_kind, emptied}
 use Rattle.um_reader.specs.declared.taken.Taken.{Taken}
 use Rattle.um_reader.specs.declared.taken.Taken.TheVariants as taken
-use Rattle.um_types.specs.UnitTokens.{unit_token}
-use Rattle.um_types.specs.UnitMachine.{power_in}
+use Rattle.um_unit_texts.specs.UnitTokens.{unit_token}
+use Rattle.um_unit_texts.specs.UnitMachine.{power_in}
 use Rattle.um_operands.specs.declared.focus.Focus.{Focus}
 use Rattle.um_operands.specs.declared.focus.Focus.TheVariants as focus
 use Rattle.um_operands.specs.ExprBegun.{Frame}

@@ -11,7 +11,7 @@ use Rattle.um_tree.specs.declared.expression.Arith.TheVariants as arith_of
 use Rattle.um_tree.specs.declared.expression.Sign.TheVariants as compare
 use Rattle.um_tree.specs.RawTree.{num_syntax, name_syntax, call_syntax, negate_syntax, not_syntax, pown_syntax, arith_syntax, compare_syntax, let_syntax, match_syntax, nil_syntax, cons_syntax, field_syntax, no_exprs, more_exprs}
 use Rattle.um_reader.specs.Machine.{runs}
-use Rattle.um_types.proofs.UnitLaws.{zero_number}
+use Rattle.um_unit_texts.proofs.UnitLaws.{zero_number}
 use Rattle.um_operands.specs.ExprBegun.{State, Need, Refused, finish}
 use Rattle.um_expr.specs.ExprMachine.{step}
 

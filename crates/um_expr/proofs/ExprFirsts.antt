@@ -12,8 +12,8 @@ use Rattle.um_forms.specs.declared.token.ExprToken.{ExprToken}
 use Rattle.um_forms.specs.declared.token.ExprToken.TheVariants.{Name as name, Number as number, Truth as truth, Operator as operator, Word as word, Mark as mark}
 use Rattle.um_forms.specs.ExprTokens.{minus}
 use Rattle.um_expr.specs.ExprGrammar.{FirstAt, Spells, Fits, rank}
-use Rattle.um_types.specs.UnitTokens.{unit_token}
-use Rattle.um_types.specs.UnitMachine.{power_in}
+use Rattle.um_unit_texts.specs.UnitTokens.{unit_token}
+use Rattle.um_unit_texts.specs.UnitMachine.{power_in}
 use Rattle.um_forms.specs.ExprForms.{begins_atom, argument, begin_in, in_pown, pown_after, pown_bracket}
 use Rattle.um_expr.specs.ExprMachine.{act}
 use Rattle.um_expr.proofs.ExprEnds.{arith_low}

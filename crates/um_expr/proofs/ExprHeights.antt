@@ -7,8 +7,8 @@ use Rattle.um_tree.specs.declared.expression.Sign.TheVariants as compare
 use Rattle.um_tree.specs.declared.expression.Arith.TheVariants as arith_of
 use Rattle.um_tree.specs.RawTree.{NoteSyntax, TypeSyntax, ExprSyntax, FieldPart, number_syntax, name_syntax, nil_syntax, exprs_in_order, fields_in_order}
 use Rattle.um_tree.specs.Heights.{expr_height, tallest_expr, tallest_field}
-use Rattle.um_types.specs.UnitTokens.{unit_token}
-use Rattle.um_types.specs.UnitMachine.{power_in}
+use Rattle.um_unit_texts.specs.UnitTokens.{unit_token}
+use Rattle.um_unit_texts.specs.UnitMachine.{power_in}
 use Rattle.um_types.specs.TypeHeights.{note_height, whole_height}
 use Rattle.um_types.specs.NoteMachine.{NoteState, NeedNote, HaveHole, InUnit, NoNote, note_step, note_finish, note_least}
 use Rattle.um_types.specs.TypeMachine.{TypeState, NeedType, HaveType, NoType, type_step, type_finish, type_least, InNote as InTypeNote}

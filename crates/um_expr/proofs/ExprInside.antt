@@ -5,7 +5,7 @@ use Rattle.um_syntax.specs.declared.token.Token.{Token}
 use Rattle.um_reader.specs.Takes.{Gives, Takes}
 use Rattle.um_reader.specs.declared.taken.Taken.{Taken}
 use Rattle.um_reader.specs.declared.taken.Taken.TheVariants as taken
-use Rattle.um_types.specs.UnitStops.{greatest_height}
+use Rattle.um_unit_texts.specs.UnitStops.{greatest_height}
 use Rattle.um_types.specs.NoteMachine.{NoteState, NeedNote, HaveHole, InUnit, NoNote, note_step, note_finish, note_least, machine_of_notes}
 use Rattle.um_types.specs.TypeMachine.{TypeState, NeedType, HaveType, NoType, type_step, type_finish, type_least, machine_of_types, InNote as InTypeNote}
 use Rattle.um_types.proofs.NoteLaws.{note_found_height}

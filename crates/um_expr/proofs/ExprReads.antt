@@ -5,8 +5,8 @@ use Rattle.std.proofs.lemmas.Bool.{lt-ltb}
 use Rattle.um_syntax.specs.declared.token.Token.{Token}
 use Rattle.um_syntax.specs.declared.token.Kind.{Kind}
 use Rattle.um_tree.specs.RawTree.{TypeSyntax, BinderSyntax, ExprSyntax, ExprSyntaxes, FieldSyntaxes, FieldPart, truth_syntax, number_syntax, name_syntax, call_syntax, negate_syntax, not_syntax, pown_syntax, arith_syntax, compare_syntax, and_syntax, or_syntax, if_syntax, let_syntax, match_syntax, nil_syntax, list_syntax, cons_syntax, fields_syntax, field_syntax, bracket_expr_syntax, no_exprs, more_exprs, no_fields, more_fields, NoteSyntax}
-use Rattle.um_types.specs.UnitTokens.{unit_token}
-use Rattle.um_types.specs.UnitMachine.{power_in}
+use Rattle.um_unit_texts.specs.UnitTokens.{unit_token}
+use Rattle.um_unit_texts.specs.UnitMachine.{power_in}
 use Rattle.um_types.specs.TypeMachine.{NeedType}
 use Rattle.um_types.specs.TypeGrammar.{TypeFits}
 use Rattle.um_vocabulary.specs.declared.vocabulary.Keyword.TheVariants as keyword

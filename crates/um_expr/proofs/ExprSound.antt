@@ -7,8 +7,8 @@ use Rattle.um_tree.specs.declared.expression.Sign.TheVariants as compare
 use Rattle.um_tree.specs.declared.expression.Arith.TheVariants as arith_of
 use Rattle.um_tree.specs.RawTree.{NoteSyntax, TypeSyntax, ExprSyntax, truth_syntax, number_syntax, name_syntax, pown_syntax, nil_syntax, list_syntax, fields_syntax, field_syntax, bracket_expr_syntax, exprs_in_order, fields_in_order}
 use Rattle.um_reader.specs.Machine.{runs}
-use Rattle.um_types.specs.UnitTokens.{unit_token}
-use Rattle.um_types.specs.UnitMachine.{State as UnitState, power_in}
+use Rattle.um_unit_texts.specs.UnitTokens.{unit_token}
+use Rattle.um_unit_texts.specs.UnitMachine.{State as UnitState, power_in}
 use Rattle.um_types.specs.NoteMachine.{NoteState, NeedNote, HaveHole, InUnit, NoNote, note_step, note_finish}
 use Rattle.um_types.specs.TypeMachine.{TypeState, NeedType, HaveType, NoType, type_step, type_finish, InNote as InTypeNote}
 use Rattle.um_types.proofs.NoteLaws.{NoteSpellsPrefix, note_sound, note_found}

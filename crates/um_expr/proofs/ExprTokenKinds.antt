@@ -5,8 +5,8 @@ use Rattle.um_syntax.specs.declared.token.Kind.TheVariants as kind
 use Rattle.um_vocabulary.specs.declared.vocabulary.Keyword.TheVariants as keyword
 use Rattle.um_vocabulary.specs.declared.vocabulary.Symbol.{Symbol}
 use Rattle.um_vocabulary.specs.declared.vocabulary.Symbol.TheVariants as symbol
-use Rattle.um_types.specs.UnitTokens.{unit_token}
-use Rattle.um_types.specs.UnitMachine.{is_foreign}
+use Rattle.um_unit_texts.specs.UnitTokens.{unit_token}
+use Rattle.um_unit_texts.specs.UnitMachine.{is_foreign}
 use Rattle.um_forms.specs.declared.token.ExprToken.{ExprToken}
 use Rattle.um_forms.specs.declared.token.ExprToken.TheVariants.{Word as word, Mark as mark}
 use Rattle.um_forms.specs.ExprTokens.{expr_token, equal, greater}

@@ -8,8 +8,8 @@ use Rattle.um_reader.specs.Machine.{runs}
 use Rattle.um_types.specs.TypeGrammar.{NoteSpells, NoteFits, TypeSpells, TypeFits}
 use Rattle.um_types.specs.NoteMachine.{NoteState, NeedNote, HaveHole, InUnit, NoNote, note_step, note_finish}
 use Rattle.um_types.specs.TypeMachine.{TypeState, NeedType, HaveType, NoType, type_after, type_step, type_finish, InNote as InTypeNote}
-use Rattle.um_types.specs.UnitTokens.{unit_token}
-use Rattle.um_types.specs.UnitMachine.{is_foreign}
+use Rattle.um_unit_texts.specs.UnitTokens.{unit_token}
+use Rattle.um_unit_texts.specs.UnitMachine.{is_foreign}
 use Rattle.um_reader.proofs.Reaching.{lift}
 use Rattle.um_types.proofs.NoteComplete.{note_into, note_reaches, note_finds, note_stops}
 use Rattle.um_types.proofs.TypeComplete.{type_reaches}

@@ -32,8 +32,8 @@ use Rattle.um_forms.specs.declared.token.ExprToken.TheVariants.{Name as name, Nu
 use Rattle.um_forms.specs.declared.token.ExprToken.TheVariants.{Hole as hole, Operator as operator, Word as word}
 use Rattle.um_forms.specs.declared.token.ExprToken.TheVariants.{Mark as mark}
 use Rattle.um_forms.specs.ExprTokens.{expr_token, equal, less, greater, minus, double_colon}
-use Rattle.um_types.specs.UnitTokens.{unit_token}
-use Rattle.um_types.specs.UnitMachine.{power_in}
+use Rattle.um_unit_texts.specs.UnitTokens.{unit_token}
+use Rattle.um_unit_texts.specs.UnitMachine.{power_in}
 use Rattle.um_types.specs.TypeGrammar.{NoteSpells, NoteFits, TypeSpells, TypeFits}
 
 -- the first token is this, and the others are the rest

@@ -10,8 +10,8 @@ use Rattle.um_vocabulary.specs.declared.vocabulary.Symbol.TheVariants as symbol
 use Rattle.um_tree.specs.declared.expression.Sign.TheVariants as compare
 use Rattle.um_tree.specs.RawTree.{NoteSyntax, TypeSyntax, ExprSyntax, number_syntax, nil_syntax}
 use Rattle.um_reader.specs.Machine.{Machine}
-use Rattle.um_types.specs.UnitTokens.{unit_token}
-use Rattle.um_types.specs.UnitMachine.{power_in}
+use Rattle.um_unit_texts.specs.UnitTokens.{unit_token}
+use Rattle.um_unit_texts.specs.UnitMachine.{power_in}
 use Rattle.um_types.specs.NoteMachine.{NoteState, NoNote, note_act, note_finish}
 use Rattle.um_types.specs.TypeMachine.{TypeState, NoType, type_act, type_finish}
 use Rattle.um_operands.specs.declared.infix.Infix.TheVariants as between

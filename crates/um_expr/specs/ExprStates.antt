@@ -2,7 +2,7 @@
 -- Source: this project's own.
 use Rattle.std.specs.Prelude.{◌≡◌, ◌≤◌, Some}
 use Rattle.um_tree.specs.RawTree.{NoteSyntax, TypeSyntax}
-use Rattle.um_types.specs.UnitStops.{greatest_height}
+use Rattle.um_unit_texts.specs.UnitStops.{greatest_height}
 use Rattle.um_types.specs.TypeHeights.{note_height, whole_height}
 use Rattle.um_types.specs.NoteMachine.{note_finish}
 use Rattle.um_types.specs.NoteView.{note_state}

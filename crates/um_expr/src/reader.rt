@@ -3,7 +3,7 @@ ghost use Rattle.std.specs.Prelude.{◌≡◌, ◌⊎◌, ◌+◌, ◌≤◌, []
 ghost use Rattle.um_syntax.specs.Emptied.{emptied};
 ghost use Rattle.um_tree.specs.RawTree.{expr_syntax, note_syntax, type_syntax};
 ghost use Rattle.um_reader.specs.Takes.{Gives, Takes};
-ghost use Rattle.um_types.specs.UnitStops.{greatest_height};
+ghost use Rattle.um_unit_texts.specs.UnitStops.{greatest_height};
 ghost use Rattle.um_types.specs.TypeHeights.{note_height, whole_height};
 ghost use Rattle.um_types.specs.NoteMachine.{NoteState, NeedNote, note_finish};
 ghost use Rattle.um_types.specs.TypeMachine.{TypeState, NeedType, type_finish};
@@ -28,7 +28,8 @@ use um_operands::{Begun, Expected, Focus, Frames, Operand, Step, is_low, whole};
 use um_reader::Taken;
 use um_syntax::{Kind, Symbol, Token};
 use um_tree::{RawExpr, RawNote, RawType};
-use um_types::{NoteReader, TypeReader, name_of};
+use um_types::{NoteReader, TypeReader};
+use um_unit_texts::name_of;
 
 /// What is read inside the focus, at its place: nothing, the note of a number with this value, or the type of an empty
 /// list.

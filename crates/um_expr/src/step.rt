@@ -3,7 +3,7 @@ ghost use Rattle.std.specs.Prelude.{◌≡◌, ◌≤◌, IfOk, IfSome, None, So
 ghost use Rattle.um_syntax.specs.Emptied.{emptied};
 ghost use Rattle.um_tree.specs.RawTree.{number_syntax, note_syntax, type_syntax};
 ghost use Rattle.um_types.specs.TypeHeights.{note_height, whole_height};
-ghost use Rattle.um_types.specs.UnitStops.{greatest_height};
+ghost use Rattle.um_unit_texts.specs.UnitStops.{greatest_height};
 ghost use Rattle.um_operands.specs.declared.focus.Step.TheVariants.{Stops};
 ghost use Rattle.um_operands.specs.ExprKinds.{is_power};
 ghost use Rattle.um_operands.specs.ExprBegun.{Inside, DotName, Refused, finish};

@@ -11,8 +11,8 @@ use Rattle.um_tree.specs.declared.expression.Sign.TheVariants as compare
 use Rattle.um_tree.specs.declared.expression.Arith.TheVariants as arith
 use Rattle.um_tree.specs.RawTree.{ExprSyntax, truth_syntax, number_syntax, name_syntax, pown_syntax, list_syntax}
 use Rattle.um_tree.specs.RawTree.{fields_syntax, field_syntax, bracket_expr_syntax, exprs_in_order, fields_in_order}
-use Rattle.um_types.specs.UnitTokens.{unit_token}
-use Rattle.um_types.specs.UnitMachine.{power_in}
+use Rattle.um_unit_texts.specs.UnitTokens.{unit_token}
+use Rattle.um_unit_texts.specs.UnitMachine.{power_in}
 use Rattle.um_types.specs.NoteMachine.{NeedNote}
 use Rattle.um_types.specs.TypeMachine.{NeedType}
 use Rattle.um_operands.specs.declared.infix.Infix.{Infix}

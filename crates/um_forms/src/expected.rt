@@ -16,7 +16,7 @@ use std::alloc::{AllocError, Global};
 use um_operands::{Begun, Expected, Focus, Frame, Infix, Matching, Operand, ReadFields, Step};
 use um_syntax::{Symbol, Token};
 use um_tree::{Arith, Binder, Name, Sign};
-use um_types::written_power;
+use um_unit_texts::written_power;
 
 // A token that can't stand after this operand. A value that holds a tree is dropped by a call: otherwise its drop would
 // be written out, and proved, in each caller.

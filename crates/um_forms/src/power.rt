@@ -15,7 +15,7 @@ use std::alloc::{AllocError, Global};
 use um_frac::Frac;
 use um_operands::{Begun, Expected, Focus, Frame, Operand, Step};
 use um_syntax::{Symbol, Token};
-use um_types::written_power;
+use um_unit_texts::written_power;
 
 // Whether the power of `pown` is wanted.
 fn in_pown(begun: &Begun) -> bool

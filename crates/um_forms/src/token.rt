@@ -9,7 +9,7 @@ use um_frac::Frac;
 use um_operands::Infix;
 use um_syntax::{Keyword, Kind, Symbol};
 use um_tree::{Arith, Name, Sign};
-use um_types::name_of;
+use um_unit_texts::name_of;
 
 /// What a token is to expressions: a name, a unit variable, a number with its value, `true` or `false`, `_`, a sign
 /// between two operands, another reserved word, or another sign.

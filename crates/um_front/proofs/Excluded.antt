@@ -13,7 +13,7 @@ use Rattle.um_types.specs.declared.parse.LimitKind.{LimitKind}
 use Rattle.um_types.specs.declared.parse.LimitKind.TheVariants as limit
 use Rattle.um_types.specs.declared.parse.ParseStop.{ParseStop}
 use Rattle.um_types.specs.declared.parse.ParseStop.TheVariants as parse_stop
-use Rattle.um_types.specs.UnitStops.{greatest_height}
+use Rattle.um_unit_texts.specs.UnitStops.{greatest_height}
 use Rattle.um_measures.specs.declared.stop.NameStop.{NameStop}
 use Rattle.um_measures.specs.declared.stop.NameStop.TheVariants as name_stop
 use Rattle.um_measures.specs.Stops.{IsFirst}

@@ -2,8 +2,8 @@
 use Rattle.std.proofs.Common.{◌≡◌, ◌≢◌, ℕ, ◌+◌, ◌<◌, ◌≤◌, min, max, List, [], ◌∷◌, length, map, reverse, true, false, refl, sym, ap, ◌∙◌, arith, inl, inr}
 use Rattle.std.specs.Prelude.{nat_lt}
 use Rattle.std.proofs.lemmas.Bool.{cases_lt, lt-ltb, le-ltb}
-use Rattle.um_types.specs.UnitCount.{counted}
-use Rattle.um_types.specs.UnitStops.{greatest_height}
+use Rattle.um_unit_texts.specs.UnitCount.{counted}
+use Rattle.um_unit_texts.specs.UnitStops.{greatest_height}
 use Rattle.um_operands.specs.declared.frame.Frame.{Frame as Open}
 use Rattle.um_operands.specs.declared.frame.Frame.TheVariants as open_at
 use Rattle.um_operands.specs.declared.frame.Entry.{Entry}

@@ -3,7 +3,7 @@
 use Rattle.std.specs.Prelude.{◌≡◌, ℕ, ◌+◌, Bool, true, false, max, nat_lt, List, [], ◌∷◌, length, map, reverse, Option}
 use Rattle.std.specs.Prelude.{Some, None}
 use Rattle.um_tree.specs.RawTree.{ExprSyntax, binder_syntax}
-use Rattle.um_types.specs.UnitCount.{counted}
+use Rattle.um_unit_texts.specs.UnitCount.{counted}
 use Rattle.um_operands.specs.declared.frame.Frame.{Frame as Open}
 use Rattle.um_operands.specs.declared.frame.Frame.TheVariants as open_at
 use Rattle.um_operands.specs.declared.frame.Entry.{Entry}

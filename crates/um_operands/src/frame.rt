@@ -3,7 +3,7 @@ ghost use Rattle.std.specs.Prelude.{◌≡◌, ◌++◌, ◌∷◌, [], IfOk};
 ghost use Rattle.um_tree.specs.RawTree.{call_syntax, exprs_in_order};
 ghost use Rattle.um_operands.specs.ExprBegun.{bound_of, own_rank, plug, is_pown};
 ghost use Rattle.um_operands.specs.ExprLeast.{side};
-ghost use Rattle.um_types.specs.UnitCount.{counted};
+ghost use Rattle.um_unit_texts.specs.UnitCount.{counted};
 ghost use Rattle.um_operands.specs.ExprOperands.{operand_expr, operand_exprs};
 ghost use Rattle.um_operands.specs.ExprFrames.{view_frame, is_call};
 
@@ -13,7 +13,7 @@ use crate::operand::Operand;
 use crate::operands::{Operands, ReadFields};
 use std::alloc::{AllocError, Global};
 use um_tree::{Binder, Name, RawExpr};
-use um_types::higher;
+use um_unit_texts::higher;
 
 /// A form that has begun, up to the operand that is read next. The first number of each variant is its place.
 #[derive(Drop)]

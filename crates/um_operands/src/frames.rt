@@ -1,13 +1,13 @@
 // The open frames, each with the least height that it and the frames around it ask for.
 ghost use Rattle.std.specs.Prelude.{◌≡◌, ◌<◌, ◌∷◌, [], IfSome, OnOk, length, map, reverse, vec_len};
-ghost use Rattle.um_types.specs.UnitCount.{counted};
+ghost use Rattle.um_unit_texts.specs.UnitCount.{counted};
 ghost use Rattle.um_operands.specs.ExprBegun.{top_bound, top_rank};
 ghost use Rattle.um_operands.specs.ExprFrames.{view_frame, entry_least, stack, base, bases, Taken};
 
 use crate::frame::{Entry, Frame};
 use crate::height::counted_sum;
 use std::alloc::{AllocError, Global};
-use um_types::{TOO_HIGH, higher, one_higher};
+use um_unit_texts::{TOO_HIGH, higher, one_higher};
 
 /// The open frames, the innermost last.
 #[derive(Drop)]

@@ -1,9 +1,9 @@
 // The sum of heights as they are counted beside trees: up to one above the greatest that is allowed.
 ghost use Rattle.std.specs.Prelude.{◌≡◌, ◌+◌, ◌≤◌};
-ghost use Rattle.um_types.specs.UnitCount.{counted};
-ghost use Rattle.um_types.specs.UnitStops.{greatest_height};
+ghost use Rattle.um_unit_texts.specs.UnitCount.{counted};
+ghost use Rattle.um_unit_texts.specs.UnitStops.{greatest_height};
 
-use um_types::TOO_HIGH;
+use um_unit_texts::TOO_HIGH;
 
 /// The sum, counted.
 pub fn counted_sum(left: u32, right: u32) -> u32

@@ -1,8 +1,8 @@
 // The least height of an expression that begins with what was read.
 ghost use Rattle.std.specs.Prelude.{◌≡◌, ◌+◌, max, nat_lt};
 ghost use Rattle.um_tree.specs.Heights.{expr_height};
-ghost use Rattle.um_types.specs.UnitCount.{counted};
-ghost use Rattle.um_types.specs.UnitStops.{greatest_height};
+ghost use Rattle.um_unit_texts.specs.UnitCount.{counted};
+ghost use Rattle.um_unit_texts.specs.UnitStops.{greatest_height};
 ghost use Rattle.um_operands.specs.ExprLeast.{expected_least, whole_least};
 ghost use Rattle.um_operands.specs.ExprOperands.{operand_expr};
 ghost use Rattle.um_operands.specs.ExprStack.{frames_of};
@@ -13,7 +13,7 @@ use crate::frames::Frames;
 use crate::height::counted_sum;
 use crate::matching::Matching;
 use crate::operand::Operand;
-use um_types::{TOO_HIGH, higher, one_higher};
+use um_unit_texts::{TOO_HIGH, higher, one_higher};
 
 // One above this part, and above a part that is missing.
 fn above(part: &Operand) -> u32

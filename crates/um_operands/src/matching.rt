@@ -6,7 +6,7 @@ ghost use Rattle.um_operands.specs.ExprOperands.{operand_expr};
 use crate::operand::Operand;
 use std::alloc::{AllocError, Global};
 use um_tree::{Binder, RawExpr, RawNode};
-use um_types::{higher, one_higher};
+use um_unit_texts::{higher, one_higher};
 
 /// A `match` up to the bar of its full arm: its place, the list, and the expression of the empty arm.
 #[derive(Drop)]

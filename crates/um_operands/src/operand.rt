@@ -5,8 +5,8 @@ ghost use Rattle.um_tree.specs.RawTree.{number_syntax, name_syntax, negate_synta
 ghost use Rattle.um_tree.specs.RawTree.{let_syntax, nil_syntax, field_syntax, bracket_expr_syntax};
 ghost use Rattle.um_tree.specs.Heights.{expr_height};
 ghost use Rattle.um_types.specs.TypeHeights.{whole_height};
-ghost use Rattle.um_types.specs.UnitCount.{counted};
-ghost use Rattle.um_types.specs.UnitStops.{greatest_height};
+ghost use Rattle.um_unit_texts.specs.UnitCount.{counted};
+ghost use Rattle.um_unit_texts.specs.UnitStops.{greatest_height};
 ghost use Rattle.um_operands.specs.ExprHeights.{notes_in, written_height};
 ghost use Rattle.um_operands.specs.Ranks.{infix_text};
 
@@ -16,7 +16,7 @@ use std::alloc::{AllocError, Global};
 use std::mem;
 use um_frac::Frac;
 use um_tree::{Binder, Name, RawExpr, RawNode, RawNote, RawType};
-use um_types::{higher, one_higher};
+use um_unit_texts::{higher, one_higher};
 
 /// An expression and its height, counted. No unit text or type text in it is too high. The tree stands in a box, as the
 /// node around it holds it, so an operand is handed on at little cost.

@@ -3,15 +3,15 @@ ghost use Rattle.std.specs.Prelude.{◌≡◌, ◌≤◌, ◌++◌, ◌∷◌, [
 ghost use Rattle.um_tree.specs.RawTree.{expr_syntax, exprs_in_order, field_part, fields_in_order};
 ghost use Rattle.um_tree.specs.RawTree.{call_syntax, list_syntax, fields_syntax};
 ghost use Rattle.um_tree.specs.Heights.{tallest_expr, tallest_field};
-ghost use Rattle.um_types.specs.UnitCount.{counted};
-ghost use Rattle.um_types.specs.UnitStops.{greatest_height};
+ghost use Rattle.um_unit_texts.specs.UnitCount.{counted};
+ghost use Rattle.um_unit_texts.specs.UnitStops.{greatest_height};
 ghost use Rattle.um_operands.specs.ExprHeights.{notes_in_all, notes_in_fields};
 ghost use Rattle.um_operands.specs.ExprBegun.{with_field};
 
 use crate::operand::Operand;
 use std::alloc::{AllocError, Global};
 use um_tree::{Name, RawExpr, RawExprs, RawField, RawFields, RawNode};
-use um_types::{higher, one_higher};
+use um_unit_texts::{higher, one_higher};
 
 /// Some expressions and the height of the highest, counted. No unit text or type text in them is too high.
 #[derive(Drop)]

@@ -11,8 +11,8 @@ use Rattle.um_reader.specs.Texts.{BeginsText, BeginsTextWithin}
 use Rattle.um_reader.specs.Machine.{runs, reached}
 use Rattle.um_reader.proofs.Readers.{none_some, begins_text, begins_within, begins_none, none_within}
 use Rattle.um_reader.proofs.Reaching.{runs_append}
-use Rattle.um_types.specs.UnitStops.{greatest_height}
-use Rattle.um_types.specs.UnitMachine.{Need as NeedUnit, Have as HaveUnit, Raised, Lowered, Refused as NoUnit}
+use Rattle.um_unit_texts.specs.UnitStops.{greatest_height}
+use Rattle.um_unit_texts.specs.UnitMachine.{Need as NeedUnit, Have as HaveUnit, Raised, Lowered, Refused as NoUnit}
 use Rattle.um_operands.specs.ExprBegun.{Need, Have, HavePower, Greater, Inside, InNote, InType, Refused}
 use Rattle.um_decls.specs.DeclMachine.{DeclState, DeclBegin, Expects, HaveBase, InShort, HaveRecord, InField, InParam, InResult, InBody, NoDecl}
 use Rattle.um_decls.specs.DeclMachine.{decl_act, decl_step, decl_finish, ProgramState, InProgram, NoProgram, program_goes, next_decl, program_step, program_finish, program_found, at_start}

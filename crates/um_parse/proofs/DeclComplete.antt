@@ -4,11 +4,11 @@ use Rattle.std.proofs.lemmas.List.{append-nil}
 use Rattle.um_syntax.specs.declared.token.Token.{Token}
 use Rattle.um_syntax.specs.declared.token.Kind.{Kind}
 use Rattle.um_tree.specs.RawTree.{TypeSyntax, VarSyntax, FieldDeclSyntax, ParamSyntax, FunctionSyntax, DeclSyntax, base_syntax, short_syntax, record_decl_syntax, function_syntax}
-use Rattle.um_types.specs.UnitMachine.{Need as NeedUnit}
+use Rattle.um_unit_texts.specs.UnitMachine.{Need as NeedUnit}
 use Rattle.um_types.specs.TypeGrammar.{TypeFits}
 use Rattle.um_types.specs.TypeMachine.{NeedType, HaveType, NoType, type_after}
-use Rattle.um_types.proofs.UnitComplete.{into as unit_into}
-use Rattle.um_types.proofs.UnitNested.{unit_finds}
+use Rattle.um_unit_texts.proofs.UnitComplete.{into as unit_into}
+use Rattle.um_unit_texts.proofs.UnitNested.{unit_finds}
 use Rattle.um_vocabulary.specs.declared.vocabulary.Keyword.TheVariants as keyword
 use Rattle.um_vocabulary.specs.declared.vocabulary.Symbol.TheVariants as symbol
 use Rattle.um_reader.specs.Machine.{runs, Yields}

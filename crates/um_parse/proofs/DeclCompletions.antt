@@ -8,10 +8,10 @@ use Rattle.um_vocabulary.specs.declared.vocabulary.Keyword.TheVariants as keywor
 use Rattle.um_vocabulary.specs.declared.vocabulary.Symbol.{Symbol}
 use Rattle.um_vocabulary.specs.declared.vocabulary.Symbol.TheVariants as symbol
 use Rattle.um_tree.specs.RawTree.{bool_syntax, BinderSyntax, VarSyntax, FieldDeclSyntax, ParamSyntax, DeclSyntax, base_syntax, short_syntax, record_decl_syntax}
-use Rattle.um_types.specs.UnitGrammar.{Spells as UnitSpells, IsUnit}
-use Rattle.um_types.specs.UnitMachine.{Need as NeedUnit, Refused as NoUnit, run as unit_run}
-use Rattle.um_types.proofs.UnitLaws.{ending_of, completed, can_go_on}
-use Rattle.um_types.proofs.UnitCut.{unit_before}
+use Rattle.um_unit_texts.specs.UnitGrammar.{Spells as UnitSpells, IsUnit}
+use Rattle.um_unit_texts.specs.UnitMachine.{Need as NeedUnit, Refused as NoUnit, run as unit_run}
+use Rattle.um_unit_texts.proofs.UnitLaws.{ending_of, completed, can_go_on}
+use Rattle.um_unit_texts.proofs.UnitCut.{unit_before}
 use Rattle.um_types.proofs.TypeSound.{TypeSpellsPrefix}
 use Rattle.um_types.proofs.TypeLaws.{type_ending, type_completed, type_can_end}
 use Rattle.um_parse.specs.DeclGrammar.{Attribute, VarsSpell, FieldDeclsSpell, DeclSpells, DeclFits}

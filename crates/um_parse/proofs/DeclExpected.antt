@@ -1,6 +1,6 @@
 -- What follows a token before the name of a declaration stands within the heights.
 use Rattle.std.proofs.Common.{◌≤◌, arith}
-use Rattle.um_types.specs.UnitStops.{greatest_height}
+use Rattle.um_unit_texts.specs.UnitStops.{greatest_height}
 use Rattle.um_decls.specs.DeclLeast.{expected_least}
 use Rattle.um_parse.specs.ReaderStates.{view_fixed, view_expected}
 use Rattle.um_parse.specs.declared.decl_prefix.FixedToken.{FixedToken}

@@ -3,11 +3,11 @@ use Rattle.std.proofs.Common.{◌≡◌, ◌≢◌, ℕ, ◌≤◌, max, List, [
 use Rattle.um_syntax.specs.declared.token.Token.{Token}
 use Rattle.um_tree.specs.declared.expression.Sign.TheVariants as compare
 use Rattle.um_tree.specs.RawTree.{UnitSyntax, TypeSyntax, bool_syntax, BinderSyntax, ExprSyntax, VarSyntax, FieldDeclSyntax, ParamSyntax, DeclSyntax, base_syntax, short_syntax, record_decl_syntax}
-use Rattle.um_types.specs.UnitMachine.{State as UnitState, Refused as NoUnit, unit_step, finish as unit_finish}
-use Rattle.um_types.specs.UnitLeast.{least}
+use Rattle.um_unit_texts.specs.UnitMachine.{State as UnitState, Refused as NoUnit, unit_step, finish as unit_finish}
+use Rattle.um_unit_texts.specs.UnitLeast.{least}
 use Rattle.um_types.specs.TypeHeights.{whole_height}
 use Rattle.um_types.specs.TypeMachine.{TypeState, NoType, type_step, type_finish, type_least}
-use Rattle.um_types.proofs.UnitHeights.{completed_height, unit_up, found_height}
+use Rattle.um_unit_texts.proofs.UnitHeights.{completed_height, unit_up, found_height}
 use Rattle.um_types.proofs.TypeLaws.{type_completed, type_completed_height, type_up, type_found_height}
 use Rattle.um_vocabulary.specs.declared.vocabulary.Keyword.TheVariants as keyword
 use Rattle.um_vocabulary.specs.declared.vocabulary.Symbol.TheVariants as symbol

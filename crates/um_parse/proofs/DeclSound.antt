@@ -3,12 +3,12 @@ use Rattle.std.proofs.Common.{◌≡◌, ◌≢◌, ℕ, List, [], ◌∷◌, �
 use Rattle.um_syntax.specs.declared.token.Token.{Token}
 use Rattle.um_tree.specs.declared.expression.Sign.TheVariants as compare
 use Rattle.um_tree.specs.RawTree.{UnitSyntax, TypeSyntax, BinderSyntax, ExprSyntax, VarSyntax, FieldDeclSyntax, ParamSyntax, DeclSyntax, base_syntax, short_syntax, record_decl_syntax}
-use Rattle.um_types.specs.UnitGrammar.{Spells as UnitSpells, IsUnit}
-use Rattle.um_types.specs.UnitMachine.{State as UnitState, Need as NeedUnit, Refused as NoUnit, unit_step, run as unit_run, finish as unit_finish}
+use Rattle.um_unit_texts.specs.UnitGrammar.{Spells as UnitSpells, IsUnit}
+use Rattle.um_unit_texts.specs.UnitMachine.{State as UnitState, Need as NeedUnit, Refused as NoUnit, unit_step, run as unit_run, finish as unit_finish}
 use Rattle.um_types.specs.TypeMachine.{TypeState, NeedType, NoType, type_step, type_finish}
 use Rattle.um_reader.proofs.Reaching.{runs_append}
-use Rattle.um_types.proofs.UnitLaws.{found}
-use Rattle.um_types.proofs.UnitCut.{unit_before}
+use Rattle.um_unit_texts.proofs.UnitLaws.{found}
+use Rattle.um_unit_texts.proofs.UnitCut.{unit_before}
 use Rattle.um_types.proofs.TypeSound.{TypeSpellsPrefix, type_sound, type_found}
 use Rattle.um_vocabulary.specs.declared.vocabulary.Keyword.TheVariants as keyword
 use Rattle.um_vocabulary.specs.declared.vocabulary.Symbol.TheVariants as symbol

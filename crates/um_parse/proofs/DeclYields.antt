@@ -4,13 +4,13 @@ use Rattle.um_syntax.specs.declared.token.Token.{Token}
 use Rattle.um_syntax.specs.declared.token.Kind.{Kind}
 use Rattle.um_tree.specs.RawTree.{UnitSyntax, TypeSyntax, BinderSyntax, ExprSyntax, VarSyntax, FieldDeclSyntax, ParamSyntax}
 use Rattle.um_reader.specs.Machine.{Yields}
-use Rattle.um_types.specs.UnitGrammar.{Spells as UnitSpells, Fits as UnitFits}
-use Rattle.um_types.specs.UnitMachine.{State as UnitState, Need as NeedUnit, Refused as NoUnit, unit_step}
+use Rattle.um_unit_texts.specs.UnitGrammar.{Spells as UnitSpells, Fits as UnitFits}
+use Rattle.um_unit_texts.specs.UnitMachine.{State as UnitState, Need as NeedUnit, Refused as NoUnit, unit_step}
 use Rattle.um_types.specs.TypeGrammar.{TypeSpells, TypeFits}
 use Rattle.um_types.specs.TypeMachine.{TypeState, NeedType, HaveType, NoType, type_step, type_finish}
 use Rattle.um_reader.proofs.Reaching.{yields_then, lift}
-use Rattle.um_types.proofs.UnitComplete.{into as unit_into}
-use Rattle.um_types.proofs.UnitNested.{unit_reaches}
+use Rattle.um_unit_texts.proofs.UnitComplete.{into as unit_into}
+use Rattle.um_unit_texts.proofs.UnitNested.{unit_reaches}
 use Rattle.um_types.proofs.TypeComplete.{type_reaches}
 use Rattle.um_vocabulary.specs.declared.vocabulary.Keyword.TheVariants as keyword
 use Rattle.um_vocabulary.specs.declared.vocabulary.Symbol.TheVariants as symbol

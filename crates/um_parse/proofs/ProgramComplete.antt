@@ -6,9 +6,9 @@ use Rattle.um_syntax.specs.declared.token.Kind.{Kind}
 use Rattle.um_tree.specs.RawTree.{ExprSyntax, DeclSyntax, base_syntax, short_syntax, record_decl_syntax, function_syntax}
 use Rattle.um_reader.specs.Machine.{runs, Yields}
 use Rattle.um_reader.proofs.Reaching.{yields_then, lift}
-use Rattle.um_types.proofs.UnitComplete.{into as unit_into}
-use Rattle.um_types.specs.UnitTokens.{unit_token}
-use Rattle.um_types.proofs.ForeignTokens.{foreign_refused}
+use Rattle.um_unit_texts.proofs.UnitComplete.{into as unit_into}
+use Rattle.um_unit_texts.specs.UnitTokens.{unit_token}
+use Rattle.um_unit_texts.proofs.ForeignTokens.{foreign_refused}
 use Rattle.um_vocabulary.specs.declared.vocabulary.Keyword.TheVariants as keyword
 use Rattle.um_vocabulary.specs.declared.vocabulary.Symbol.TheVariants as symbol
 use Rattle.um_operands.specs.ExprBegun.{Frame, Refused}

@@ -2,7 +2,7 @@
 use Rattle.std.proofs.Common.{◌≡◌, ℕ, ◌+◌, List, [], ◌∷◌, Option, Some, None, Ok, Err, refl, sym, ap, subst, ◌∙◌, inl, inr, ◌⊎◌}
 use Rattle.um_syntax.specs.declared.token.Token.{Token}
 use Rattle.um_tree.specs.RawTree.{DeclSyntax, program_syntax}
-use Rattle.um_types.specs.UnitStops.{greatest_height, place_of}
+use Rattle.um_unit_texts.specs.UnitStops.{greatest_height, place_of}
 use Rattle.um_types.specs.declared.parse.LimitKind.{LimitKind}
 use Rattle.um_types.specs.declared.parse.LimitKind.TheVariants as limit
 use Rattle.um_types.specs.declared.parse.ParseStop.TheVariants as stop

@@ -6,7 +6,7 @@ use Rattle.um_reader.specs.Takes.{Gives, Takes}
 use Rattle.um_reader.specs.declared.taken.Taken.{Taken}
 use Rattle.um_reader.specs.declared.taken.Taken.TheVariants as taken
 use Rattle.um_reader.proofs.Readers.{gives_as}
-use Rattle.um_types.specs.UnitStops.{greatest_height}
+use Rattle.um_unit_texts.specs.UnitStops.{greatest_height}
 use Rattle.um_decls.specs.DeclMachine.{DeclBegin, DeclState, Expects, decl_step, decl_finish, ProgramState, InProgram, NoProgram, program_goes, next_decl, program_step, at_start, program_found, program_finish}
 use Rattle.um_parse.specs.ProgramHeights.{decl_height, program_height}
 use Rattle.um_decls.specs.DeclLeast.{decl_least, machine_of_declarations}

@@ -9,7 +9,7 @@ use Rattle.um_vocabulary.specs.declared.vocabulary.Symbol.TheVariants as symbol
 use Rattle.um_tree.specs.declared.raw.RawProgram.{RawProgram}
 use Rattle.um_tree.specs.RawTree.{DeclSyntax, program_syntax}
 use Rattle.um_reader.specs.Texts.{BeginsText, BeginsTextWithin}
-use Rattle.um_types.specs.UnitStops.{greatest_height}
+use Rattle.um_unit_texts.specs.UnitStops.{greatest_height}
 use Rattle.um_types.specs.declared.parse.ParseStop.{ParseStop}
 use Rattle.um_types.specs.declared.parse.ParseStop.TheVariants as stop
 use Rattle.um_parse.specs.DeclGrammar.{IsProgram}

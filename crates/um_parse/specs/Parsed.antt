@@ -8,7 +8,7 @@ use Rattle.um_types.specs.declared.parse.LimitKind.{LimitKind}
 use Rattle.um_types.specs.declared.parse.LimitKind.TheVariants as limit
 use Rattle.um_types.specs.declared.parse.ParseStop.{ParseStop}
 use Rattle.um_types.specs.declared.parse.ParseStop.TheVariants as stop
-use Rattle.um_types.specs.UnitStops.{greatest_height, place_of}
+use Rattle.um_unit_texts.specs.UnitStops.{greatest_height, place_of}
 use Rattle.um_parse.specs.DeclGrammar.{IsProgram}
 use Rattle.um_parse.specs.ProgramHeights.{program_height}
 use Rattle.um_parse.specs.ProgramLimits.{WithinLimits, PassesAt}

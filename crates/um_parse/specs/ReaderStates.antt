@@ -3,7 +3,7 @@
 use Rattle.std.specs.Prelude.{map, Option, Some, None}
 use Rattle.um_syntax.specs.declared.token.Token.{Token}
 use Rattle.um_tree.specs.RawTree.{decl_syntax}
-use Rattle.um_types.specs.UnitView.{unit_state}
+use Rattle.um_unit_texts.specs.UnitView.{unit_state}
 use Rattle.um_forms.specs.ExprTokens.{expr_token}
 use Rattle.um_decls.specs.DeclMachine.{DeclExpected, DeclBegin, AttributeWord, AttributeGreater, AttributeClose}
 use Rattle.um_decls.specs.DeclMachine.{MeasureType, MeasureName, RecordName, LetName, RecName, DeclState, Expects}

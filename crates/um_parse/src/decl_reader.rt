@@ -2,9 +2,9 @@
 ghost use Rattle.std.specs.Prelude.{◌≡◌, ◌≤◌, false, [], IfOk, Some, None, option_map};
 ghost use Rattle.um_tree.specs.RawTree.{unit_syntax, base_syntax, decl_syntax};
 ghost use Rattle.um_reader.specs.Takes.{Gives, Takes};
-ghost use Rattle.um_types.specs.UnitStops.{greatest_height};
-ghost use Rattle.um_types.specs.UnitMachine.{Need, finish};
-ghost use Rattle.um_types.specs.UnitView.{unit_state};
+ghost use Rattle.um_unit_texts.specs.UnitStops.{greatest_height};
+ghost use Rattle.um_unit_texts.specs.UnitMachine.{Need, finish};
+ghost use Rattle.um_unit_texts.specs.UnitView.{unit_state};
 ghost use Rattle.um_forms.specs.ExprTokens.{expr_token};
 ghost use Rattle.um_decls.specs.DeclMachine.{Expects, DeclBegin, MeasureName, RecordName, LetName, RecName};
 ghost use Rattle.um_decls.specs.DeclMachine.{FunctionVars, HaveBase, InShort, NoDecl, take_expected, base_after};
@@ -22,7 +22,7 @@ use um_decls::{FunctionReader, RecordReader, in_box, push_found, take_in_unit};
 use um_reader::{Reader, Taken};
 use um_syntax::{Keyword, Kind, Symbol, Token};
 use um_tree::{Name, RawDecl, RawUnit};
-use um_types::{UnitReader, name_of};
+use um_unit_texts::{UnitReader, name_of};
 
 /// How far a declaration was read.
 #[derive(Drop)]

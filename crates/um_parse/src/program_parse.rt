@@ -2,7 +2,7 @@
 ghost use Rattle.std.specs.Prelude.{◌<◌, ◌≤◌, ◌^◌, length};
 ghost use Rattle.um_tree.specs.RawTree.{program_syntax};
 ghost use Rattle.um_reader.specs.ReadTo.{ReadAll};
-ghost use Rattle.um_types.specs.UnitStops.{greatest_height};
+ghost use Rattle.um_unit_texts.specs.UnitStops.{greatest_height};
 ghost use Rattle.um_parse.specs.DeclGrammar.{IsProgram};
 ghost use Rattle.um_parse.specs.ProgramHeights.{program_height};
 ghost use Rattle.um_parse.specs.ProgramNodes.{program_nodes};
@@ -14,7 +14,8 @@ use std::alloc::{AllocError, Global};
 use um_reader::{ReadStop, Reader, Taken, read_all};
 use um_syntax::{Token, Tokens};
 use um_tree::RawProgram;
-use um_types::{LimitKind, ParseStop, place};
+use um_types::{LimitKind, ParseStop};
+use um_unit_texts::place;
 
 // The program, if it passes no limit besides its height.
 fn limited(program: RawProgram) -> Result<RawProgram, ParseStop>

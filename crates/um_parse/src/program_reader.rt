@@ -32,7 +32,7 @@ impl ProgramReader {
     ghost use Rattle.std.specs.Prelude.{true};
     ghost use Rattle.um_tree.specs.RawTree.{DeclSyntax};
     ghost use Rattle.um_reader.specs.Takes.{Gives, Takes};
-    ghost use Rattle.um_types.specs.UnitStops.{greatest_height};
+    ghost use Rattle.um_unit_texts.specs.UnitStops.{greatest_height};
     ghost use Rattle.um_decls.specs.DeclMachine.{DeclBegin, Expects, ProgramState, decl_step, decl_finish, next_decl};
     ghost use Rattle.um_decls.specs.DeclMachine.{at_start, program_finish};
     ghost use Rattle.um_parse.specs.ProgramHeights.{decl_height, program_height};
@@ -85,7 +85,7 @@ impl Reader for ProgramReader {
     ghost use Rattle.std.proofs.Common.{arith};
     ghost use Rattle.um_tree.specs.RawTree.{DeclSyntax, program_syntax};
     ghost use Rattle.um_reader.specs.Takes.{Takes};
-    ghost use Rattle.um_types.specs.UnitStops.{greatest_height};
+    ghost use Rattle.um_unit_texts.specs.UnitStops.{greatest_height};
     ghost use Rattle.um_decls.specs.DeclMachine.{ProgramState, program_finish};
     ghost use Rattle.um_parse.specs.ProgramLeast.{program_least, machine_of_programs};
     ghost use Rattle.um_parse.specs.ReaderStates.{program_state};

@@ -19,8 +19,8 @@ use Rattle.um_syntax.proofs.Closing.{or_false}
 use Rattle.um_syntax.proofs.Texts.{head_of}
 use Rattle.um_tree.specs.RawTree.{UnitSyntax}
 use Rattle.um_tree.specs.Heights.{unit_height}
-use Rattle.um_types.specs.UnitTokens.{unit_token}
-use Rattle.um_types.specs.UnitGrammar.{Spells, IsUnit}
+use Rattle.um_unit_texts.specs.UnitTokens.{unit_token}
+use Rattle.um_unit_texts.specs.UnitGrammar.{Spells, IsUnit}
 use Rattle.um_measures.specs.UnitNames.{resolved_unit}
 use Rattle.um_show.proofs.Chain.{fresh, full, is_second, Clear}
 use Rattle.um_show.proofs.ChainTexts.{Matches}

@@ -21,7 +21,7 @@ use Rattle.um_syntax.proofs.Reading.{ascii_no_name}
 use Rattle.um_syntax.proofs.Closing.{or_false}
 use Rattle.um_syntax.proofs.WordLetters.{keyword_identifier}
 use Rattle.um_syntax.proofs.Texts.{head_of}
-use Rattle.um_types.specs.UnitTokens.{unit_token}
+use Rattle.um_unit_texts.specs.UnitTokens.{unit_token}
 use Rattle.um_show.proofs.Chain.{full, Clear}
 use Rattle.um_display.specs.UnitWords.{is_other_white}
 use Rattle.um_read_back.proofs.Segments.{caret_after, power_after, glued_after}

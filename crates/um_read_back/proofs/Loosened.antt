@@ -11,7 +11,7 @@ use Rattle.um_vocabulary.specs.declared.vocabulary.Symbol.TheVariants as symbol
 use Rattle.um_vocabulary.specs.Vocabulary.{symbol_text}
 use Rattle.um_syntax.specs.Numeral.{Numeral, Whole, Decimal, Ratio}
 use Rattle.um_syntax.specs.Lexeme.{Lexeme, Name, Var, Number, Word, Hole, Sign, Ends, IsAlone, SignEnds, LeavesLetter, NumeralEnds, begins, begins_part, kind_of}
-use Rattle.um_types.specs.UnitTokens.{unit_token}
+use Rattle.um_unit_texts.specs.UnitTokens.{unit_token}
 use Rattle.um_show.proofs.Chain.{full, Clear}
 use Rattle.um_show.proofs.SignRoles.{sign_stops}
 use Rattle.um_show.proofs.Beginnings.{numeral_ends}

@@ -21,9 +21,9 @@ use Rattle.um_syntax.specs.declared.token.Kind.TheVariants as kind
 use Rattle.um_vocabulary.specs.declared.vocabulary.Symbol.TheVariants as symbol
 use Rattle.um_tree.specs.RawTree.{UnitSyntax, UnitSyntaxes, measure_syntax, power_syntax, side_syntax, over_syntax, inverse_syntax, no_units, more_units}
 use Rattle.um_tree.specs.Heights.{unit_height, tallest_unit}
-use Rattle.um_types.specs.UnitTokens.{unit_token, number, power_from}
-use Rattle.um_types.specs.UnitGrammar.{Spells, AllSpell, Several, Fits, ArePowers, rank}
-use Rattle.um_types.proofs.UnitCut.{unit_cut}
+use Rattle.um_unit_texts.specs.UnitTokens.{unit_token, number, power_from}
+use Rattle.um_unit_texts.specs.UnitGrammar.{Spells, AllSpell, Several, Fits, ArePowers, rank}
+use Rattle.um_unit_texts.proofs.UnitCut.{unit_cut}
 use Rattle.um_measures.specs.UnitNames.{or_else, or_one, unless, unknown_in, unknown_among, unit_of, product_of, parts_fit, products_fit}
 use Rattle.um_show.specs.UnitText.{base_name, variable_text, atom_text, factor_text, factors_text, divisors_text}
 use Rattle.um_show.proofs.Chain.{fresh, full, raised, IsGoodName}

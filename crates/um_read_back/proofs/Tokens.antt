@@ -16,7 +16,7 @@ use Rattle.um_syntax.specs.Numeral.{Numeral, Whole, numeral_text, IsNumeral, ord
 use Rattle.um_syntax.specs.Lexeme.{Name, Number, Word, Hole, Sign, is_whole, kind_of}
 use Rattle.um_syntax.proofs.WordLetters.{keyword_identifier}
 use Rattle.um_syntax.proofs.Texts.{hole_encoded}
-use Rattle.um_types.specs.UnitTokens.{greatest_power}
+use Rattle.um_unit_texts.specs.UnitTokens.{greatest_power}
 use Rattle.um_show.proofs.Numbers.{power_is, decimal_digits}
 use Rattle.um_show.proofs.Chain.{Place, full, raised, role, after_role, takes_letter, is_fresh, takes_sign, is_raised, IsGoodName}
 use Rattle.um_show.proofs.SignRoles.{role_is, sign_stops, raised_after, power_after, behind_after}

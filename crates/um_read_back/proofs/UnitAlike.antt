@@ -3,8 +3,8 @@ use Rattle.std.proofs.Common.{◌≡◌, ℕ, ◌≤◌, ℤ, true, List, [], �
 use Rattle.um_syntax.specs.declared.token.Token.{Token}
 use Rattle.um_vocabulary.specs.declared.vocabulary.Symbol.TheVariants as symbol
 use Rattle.um_tree.specs.RawTree.{UnitSyntax, UnitSyntaxes, one_syntax, measure_syntax, variable_syntax, power_syntax, side_syntax, times_syntax, over_syntax, inverse_syntax, bracket_syntax, no_units, more_units}
-use Rattle.um_types.specs.UnitTokens.{UnitToken, sign, measure, variable, number, unit_token}
-use Rattle.um_types.specs.UnitGrammar.{First, FirstAt, PowerSpells, Spells, AllSpell, Several, Fits, ArePowers, rank}
+use Rattle.um_unit_texts.specs.UnitTokens.{UnitToken, sign, measure, variable, number, unit_token}
+use Rattle.um_unit_texts.specs.UnitGrammar.{First, FirstAt, PowerSpells, Spells, AllSpell, Several, Fits, ArePowers, rank}
 use Rattle.um_show.specs.Unplaced.{bare_unit, bare_units}
 
 abbrev pub SameKinds : List Token → List Token → Type 0

@@ -4,7 +4,7 @@ use Rattle.um_units.specs.PowerMap.{PowerMap}
 use Rattle.um_syntax.specs.declared.token.Token.{Token}
 use Rattle.um_tree.specs.RawTree.{UnitSyntax}
 use Rattle.um_tree.specs.Heights.{unit_height}
-use Rattle.um_types.specs.UnitGrammar.{IsUnit}
+use Rattle.um_unit_texts.specs.UnitGrammar.{IsUnit}
 use Rattle.um_read_back.proofs.BareUnits.{IsResolved}
 
 -- the tokens up to the rest are a unit text that stands for the unit

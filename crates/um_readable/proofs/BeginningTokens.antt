@@ -5,7 +5,7 @@ use Rattle.um_tree.specs.RawTree.{DeclSyntax}
 use Rattle.um_types.specs.declared.parse.LimitKind.{LimitKind}
 use Rattle.um_types.specs.declared.parse.LimitKind.TheVariants as limit
 use Rattle.um_types.specs.declared.parse.ParseStop.TheVariants as parse_stop
-use Rattle.um_types.specs.UnitStops.{place_of}
+use Rattle.um_unit_texts.specs.UnitStops.{place_of}
 use Rattle.um_measures.specs.declared.stop.NameStop.{NameStop}
 use Rattle.um_measures.specs.declared.stop.NameStop.TheVariants as name_stop
 use Rattle.um_measures.specs.Stops.{IsFirst}

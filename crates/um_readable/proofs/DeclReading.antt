@@ -3,8 +3,8 @@ use Rattle.std.proofs.Common.{◌≡◌, ◌+◌, ◌≤◌, Bool, true, false, 
 use Rattle.um_syntax.specs.declared.token.Token.{Token}
 use Rattle.um_tree.specs.RawTree.{UnitSyntax, TypeSyntax, VarSyntax, FieldDeclSyntax, ParamSyntax, DeclSyntax, base_syntax, short_syntax, record_decl_syntax, function_syntax}
 use Rattle.um_types.specs.TypeGrammar.{TypeFits}
-use Rattle.um_types.specs.UnitGrammar.{Spells as UnitSpells, Fits as UnitFits}
-use Rattle.um_types.proofs.UnitNested.{unit_reaches}
+use Rattle.um_unit_texts.specs.UnitGrammar.{Spells as UnitSpells, Fits as UnitFits}
+use Rattle.um_unit_texts.proofs.UnitNested.{unit_reaches}
 use Rattle.um_forms.specs.declared.token.ExprToken.{ExprToken}
 use Rattle.um_expr.specs.ExprGrammar.{First}
 use Rattle.um_parse.specs.DeclGrammar.{Attribute, VarSpells, MoreVars, VarsSpell, FieldDeclSpells, MoreFieldDecls, FieldDeclsSpell, ParamsSpell, ResultSpells, RecSpells, DeclSpells, DeclsSpell, FieldDeclsFit, ParamsFit, ResultFits, DeclFits, DeclsFit}

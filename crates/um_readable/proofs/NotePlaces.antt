@@ -3,10 +3,10 @@ use Rattle.std.proofs.Common.{ℕ, List, [], ◌∷◌, ◌++◌, subst}
 use Rattle.um_syntax.specs.declared.token.Token.{Token}
 use Rattle.um_tree.specs.RawTree.{UnitSyntax, UnitSyntaxes, one_syntax, measure_syntax, variable_syntax, power_syntax, side_syntax, times_syntax, over_syntax, inverse_syntax, bracket_syntax, no_units, more_units}
 use Rattle.um_tree.specs.RawTree.{NoteSyntax, hole_syntax, unit_note_syntax, TypeSyntax, bool_syntax, num_syntax, record_syntax, list_type_syntax, bracket_type_syntax}
-use Rattle.um_types.specs.UnitTokens.{UnitToken}
-use Rattle.um_types.specs.UnitGrammar.{Spells as UnitSpells, AllSpell as UnitsSpell, Fits as UnitFits, ArePowers, First as UnitFirst, FirstAt as UnitFirstAt}
+use Rattle.um_unit_texts.specs.UnitTokens.{UnitToken}
+use Rattle.um_unit_texts.specs.UnitGrammar.{Spells as UnitSpells, AllSpell as UnitsSpell, Fits as UnitFits, ArePowers, First as UnitFirst, FirstAt as UnitFirstAt}
 use Rattle.um_types.specs.TypeGrammar.{FirstKind, FirstKindAt, NoteSpells, NotesSpell, AngledSpell, at_most_one, TypeSpells, NoteFits, NotesFit, TypeFits}
-use Rattle.um_types.proofs.UnitNested.{unit_reaches}
+use Rattle.um_unit_texts.proofs.UnitNested.{unit_reaches}
 use Rattle.um_syntax.specs.declared.token.Kind.{Kind}
 use Rattle.um_measures.specs.UnitNames.{first_place, first_of}
 use Rattle.um_readable.proofs.Reading.{Leaves, note_leaves, type_leaves}

@@ -9,8 +9,8 @@ use Rattle.um_vocabulary.specs.declared.vocabulary.Keyword.TheVariants as keywor
 use Rattle.um_vocabulary.specs.declared.vocabulary.Symbol.{Symbol}
 use Rattle.um_vocabulary.specs.declared.vocabulary.Symbol.TheVariants as symbol
 use Rattle.um_syntax.specs.Lexing.{is_caret_kind, is_minus_kind}
-use Rattle.um_types.specs.UnitTokens.{UnitToken, sign, unit_token}
-use Rattle.um_types.specs.UnitGrammar.{First as UnitFirst, FirstAt as UnitFirstAt}
+use Rattle.um_unit_texts.specs.UnitTokens.{UnitToken, sign, unit_token}
+use Rattle.um_unit_texts.specs.UnitGrammar.{First as UnitFirst, FirstAt as UnitFirstAt}
 use Rattle.um_types.specs.TypeGrammar.{FirstKind, FirstKindAt}
 use Rattle.um_tree.specs.declared.expression.Sign.TheVariants as compare
 use Rattle.um_operands.specs.declared.infix.Infix.TheVariants as between

@@ -5,8 +5,8 @@ use Rattle.um_syntax.specs.declared.token.Token.{Token}
 use Rattle.um_syntax.specs.Lexing.{is_minus_kind}
 use Rattle.um_tree.specs.RawTree.{UnitSyntax, UnitSyntaxes, one_syntax, measure_syntax, variable_syntax, power_syntax, side_syntax, times_syntax, over_syntax, inverse_syntax, bracket_syntax, no_units, more_units}
 use Rattle.um_tree.specs.RawTree.{NoteSyntax, hole_syntax, unit_note_syntax, TypeSyntax, bool_syntax, num_syntax, record_syntax, list_type_syntax, bracket_type_syntax}
-use Rattle.um_types.specs.UnitTokens.{UnitToken}
-use Rattle.um_types.specs.UnitGrammar.{Spells as UnitSpells, AllSpell as UnitsSpell, PowerSpells, First as UnitFirst}
+use Rattle.um_unit_texts.specs.UnitTokens.{UnitToken}
+use Rattle.um_unit_texts.specs.UnitGrammar.{Spells as UnitSpells, AllSpell as UnitsSpell, PowerSpells, First as UnitFirst}
 use Rattle.um_types.specs.TypeGrammar.{NoteSpells, NotesSpell, AngledSpell, at_most_one, TypeSpells}
 use Rattle.um_respelled.proofs.CaretTokens.{NotLess, AfterMinus, AfterCaret, AllSafe, is_minus_unit, unit_minus, unit_over, unit_over_at, unit_not_less, unit_not_less_at, kind_over, kind_over_at, kind_not_less}
 

@@ -6,7 +6,7 @@ use Rattle.um_tree.specs.declared.expression.Arith.TheVariants as arith
 use Rattle.um_tree.specs.declared.expression.Sign.{Sign}
 use Rattle.um_tree.specs.declared.expression.Sign.TheVariants as compare
 use Rattle.um_tree.specs.RawTree.{NoteSyntax, BinderSyntax, ExprSyntax, ExprSyntaxes, FieldSyntaxes, truth_syntax, number_syntax, name_syntax, call_syntax, negate_syntax, not_syntax, pown_syntax, arith_syntax, compare_syntax, and_syntax, or_syntax, if_syntax, let_syntax, match_syntax, nil_syntax, list_syntax, cons_syntax, fields_syntax, field_syntax, bracket_expr_syntax, no_exprs, more_exprs, no_fields, more_fields}
-use Rattle.um_types.specs.UnitMachine.{power_in}
+use Rattle.um_unit_texts.specs.UnitMachine.{power_in}
 use Rattle.um_operands.specs.declared.infix.Infix.TheVariants as between_of
 use Rattle.um_operands.specs.Ranks.{arith_rank}
 use Rattle.um_forms.specs.ExprTokens.{expr_token}

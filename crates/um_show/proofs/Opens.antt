@@ -23,7 +23,7 @@ use Rattle.um_syntax.specs.Lexeme.{Lexeme, Name, Var, Number, Word, Hole, Sign, 
 use Rattle.um_syntax.specs.Lexing.{is_caret_kind, is_minus_kind}
 use Rattle.um_syntax.proofs.WordLetters.{keyword_identifier}
 use Rattle.um_syntax.proofs.Texts.{hole_encoded}
-use Rattle.um_types.specs.UnitTokens.{greatest_power}
+use Rattle.um_unit_texts.specs.UnitTokens.{greatest_power}
 use Rattle.um_show.specs.Pieces.{Piece, name, variable, number, digits, word, sign, hole, space, line_end, piece_text}
 use Rattle.um_show.proofs.PieceTokens.{IsKind}
 use Rattle.um_show.proofs.Numbers.{numeral_of, power_is, decimal_digits}

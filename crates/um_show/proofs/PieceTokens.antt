@@ -5,7 +5,7 @@ use Rattle.um_frac.specs.Fraction.{numerator}
 use Rattle.um_syntax.specs.declared.token.Token.{Token}
 use Rattle.um_syntax.specs.declared.token.Kind.{Kind}
 use Rattle.um_syntax.specs.declared.token.Kind.TheVariants as kind_of
-use Rattle.um_types.specs.UnitTokens.{unit_token, number, power_from, greatest_power}
+use Rattle.um_unit_texts.specs.UnitTokens.{unit_token, number, power_from, greatest_power}
 use Rattle.um_show.specs.Pieces.{Piece, name, variable, digits, word, sign, hole, space, line_end}
 use Rattle.um_show.specs.Pieces.{number as number_piece}
 

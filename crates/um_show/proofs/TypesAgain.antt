@@ -3,7 +3,7 @@ use Rattle.std.proofs.Common.{◌≡◌, ℕ, Bool, List, [], ◌∷◌, ◌++�
 use Rattle.std.specs.List.{flat_map}
 use Rattle.um_syntax.specs.declared.token.Token.{Token}
 use Rattle.um_tree.specs.RawTree.{UnitSyntax, NoteSyntax, hole_syntax, unit_note_syntax, TypeSyntax, bool_syntax, num_syntax, record_syntax, list_type_syntax, bracket_type_syntax, one_syntax, measure_syntax, variable_syntax, power_syntax, side_syntax, times_syntax, over_syntax, inverse_syntax, bracket_syntax, no_units, more_units}
-use Rattle.um_types.specs.UnitGrammar.{Spells, Fits}
+use Rattle.um_unit_texts.specs.UnitGrammar.{Spells, Fits}
 use Rattle.um_types.specs.TypeGrammar.{BeginsAt, NoteSpells, NotesSpell, AngledSpell, at_most_one, TypeSpells, NoteFits, NotesFit, TypeFits}
 use Rattle.um_show.specs.Pieces.{Piece, hole, space, comma, greater, bool_word, list_word, bracket_close}
 use Rattle.um_show.specs.Layout.{note_pieces, written_pieces, angled_pieces, type_pieces}

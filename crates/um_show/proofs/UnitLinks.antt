@@ -4,8 +4,8 @@ use Rattle.std.specs.Prelude.{neg_ℤ}
 use Rattle.std.proofs.lemmas.Bool.{false≢true}
 use Rattle.um_syntax.specs.declared.token.Token.{Token}
 use Rattle.um_tree.specs.RawTree.{UnitSyntax, UnitSyntaxes, one_syntax, measure_syntax, variable_syntax, power_syntax, side_syntax, times_syntax, over_syntax, inverse_syntax, bracket_syntax, no_units, more_units}
-use Rattle.um_types.specs.UnitMachine.{power_in}
-use Rattle.um_types.specs.UnitGrammar.{Digits, PowerSpells, Spells, AllSpell, Fits, ArePowers, rank}
+use Rattle.um_unit_texts.specs.UnitMachine.{power_in}
+use Rattle.um_unit_texts.specs.UnitGrammar.{Digits, PowerSpells, Spells, AllSpell, Fits, ArePowers, rank}
 use Rattle.um_show.specs.Pieces.{Piece, caret, times, over, bracket_close}
 use Rattle.um_show.specs.Layout.{power_pieces, unit_pieces, more_side_pieces}
 use Rattle.um_show.proofs.Chain.{Place, fresh, full, raised, Chain, joined}

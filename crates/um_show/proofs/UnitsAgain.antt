@@ -2,8 +2,8 @@
 use Rattle.std.proofs.Common.{◌≡◌, suc, ◌≤◌, ℤ, pos, negsuc, Bool, List, [], ◌∷◌, ◌++◌, Some, refl, sym, ap, ◌∙◌, subst, inl, inr}
 use Rattle.um_syntax.specs.declared.token.Token.{Token}
 use Rattle.um_tree.specs.RawTree.{UnitSyntax, UnitSyntaxes, one_syntax, measure_syntax, variable_syntax, power_syntax, side_syntax, times_syntax, over_syntax, inverse_syntax, bracket_syntax, no_units, more_units}
-use Rattle.um_types.specs.UnitTokens.{unit_token, number}
-use Rattle.um_types.specs.UnitGrammar.{Spells, AllSpell, PowerSpells, Fits, ArePowers, Several, rank}
+use Rattle.um_unit_texts.specs.UnitTokens.{unit_token, number}
+use Rattle.um_unit_texts.specs.UnitGrammar.{Spells, AllSpell, PowerSpells, Fits, ArePowers, Several, rank}
 use Rattle.um_show.specs.Pieces.{digits, name, variable, caret, times, over, bracket_close}
 use Rattle.um_show.specs.Layout.{power_pieces, unit_pieces, side_pieces, more_side_pieces}
 use Rattle.um_show.specs.Unplaced.{bare_unit, bare_units}

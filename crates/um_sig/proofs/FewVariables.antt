@@ -12,8 +12,8 @@ use Rattle.um_tree.specs.TypeTree.{TypeTree}
 use Rattle.um_tree.specs.RawTree.{UnitSyntax, UnitSyntaxes, one_syntax, measure_syntax, variable_syntax, power_syntax, side_syntax, times_syntax, over_syntax, inverse_syntax, bracket_syntax, no_units, more_units}
 use Rattle.um_tree.specs.RawTree.{NoteSyntax, hole_syntax, unit_note_syntax, TypeSyntax, bool_syntax, num_syntax, record_syntax, list_type_syntax, bracket_type_syntax}
 use Rattle.um_elim.proofs.Cases.{on_test}
-use Rattle.um_types.specs.UnitTokens.{UnitToken, number}
-use Rattle.um_types.specs.UnitGrammar.{First, FirstAt, Digits, PowerSpells, Spells, AllSpell}
+use Rattle.um_unit_texts.specs.UnitTokens.{UnitToken, number}
+use Rattle.um_unit_texts.specs.UnitGrammar.{First, FirstAt, Digits, PowerSpells, Spells, AllSpell}
 use Rattle.um_types.specs.TypeGrammar.{FirstKind, FirstKindAt, NoteSpells, NotesSpell, AngledSpell, at_most_one, TypeSpells}
 use Rattle.um_types.specs.SignatureGrammar.{TypesSpell, IsSignature}
 use Rattle.um_measures.specs.Faults.{and_then}

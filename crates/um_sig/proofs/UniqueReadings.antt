@@ -8,7 +8,7 @@ use Rattle.um_syntax.specs.Lexing.{HasTokens, HasFault}
 use Rattle.um_syntax.proofs.Whole.{unique_tokens, unique_fault, tokens_or_fault}
 use Rattle.um_tree.specs.ProgramTree.{ProgramTree}
 use Rattle.um_tree.specs.RawTree.{TypeSyntax}
-use Rattle.um_types.specs.UnitStops.{place_of}
+use Rattle.um_unit_texts.specs.UnitStops.{place_of}
 use Rattle.um_types.specs.SignatureGrammar.{IsSignature, SignatureFails, SignatureHighAt}
 use Rattle.um_types.proofs.SignatureLaws.{signature_answers_exclude}
 use Rattle.um_measures.specs.declared.abbreviation.Abbreviation.{Abbreviation}

@@ -9,7 +9,7 @@ use Rattle.um_tree.specs.TypeTree.{type_trees}
 use Rattle.um_tree.specs.ProgramTree.{ProgramTree}
 use Rattle.um_tree.specs.RawTree.{TypeSyntax}
 use Rattle.um_tree.specs.Formed.{IsUnitIn, IsTypeIn}
-use Rattle.um_types.specs.UnitStops.{greatest_height, place_of}
+use Rattle.um_unit_texts.specs.UnitStops.{greatest_height, place_of}
 use Rattle.um_types.specs.TypeHeights.{all_height}
 use Rattle.um_types.specs.SignatureGrammar.{IsSignature, SignatureFails, SignatureHighAt}
 use Rattle.um_measures.specs.declared.abbreviation.Abbreviation.{Abbreviation}

@@ -5,7 +5,7 @@ use Rattle.um_syntax.specs.declared.token.Token.{Token}
 use Rattle.um_syntax.specs.Lexing.{HasTokens}
 use Rattle.um_tree.specs.declared.raw.RawTypes.{RawTypes}
 use Rattle.um_tree.specs.RawTree.{type_syntaxes}
-use Rattle.um_types.specs.UnitStops.{greatest_height, place_of}
+use Rattle.um_unit_texts.specs.UnitStops.{greatest_height, place_of}
 use Rattle.um_types.specs.TypeHeights.{all_height}
 use Rattle.um_types.specs.SignatureGrammar.{IsSignature, SignatureFails, SignatureHighAt}
 use Rattle.um_measures.specs.Faults.{Found, range}

@@ -10,8 +10,8 @@ use Rattle.um_tree.specs.declared.expression.Arith.TheVariants as arith_of
 use Rattle.um_tree.specs.declared.expression.Sign.TheVariants as compare
 use Rattle.um_tree.specs.RawTree.{NoteSyntax, BinderSyntax}
 use Rattle.um_operands.specs.declared.infix.Infix.TheVariants as infix_of
-use Rattle.um_types.specs.UnitTokens.{unit_token}
-use Rattle.um_types.specs.UnitMachine.{power_in}
+use Rattle.um_unit_texts.specs.UnitTokens.{unit_token}
+use Rattle.um_unit_texts.specs.UnitMachine.{power_in}
 use Rattle.um_forms.specs.declared.token.ExprToken.TheVariants.{Mark as mark}
 use Rattle.um_forms.specs.ExprTokens.{expr_token}
 use Rattle.um_expr.specs.ExprGrammar.{First, AfterNumber, BinderSpells, WrittenNote, EmptyArm, FullArm, PowerSpells, NoteFitsIn}

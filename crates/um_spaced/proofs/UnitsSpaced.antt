@@ -1,7 +1,7 @@
 -- The layout of a unit text has the table's spaces.
 use Rattle.std.proofs.Common.{◌≡◌, refl, sym, ap, ◌∙◌, ℕ, ◌≤◌, ℤ, pos, negsuc, Bool, true, false, cond, List, [], ◌∷◌, ◌++◌, arith}
 use Rattle.um_tree.specs.RawTree.{UnitSyntax, UnitSyntaxes, one_syntax, measure_syntax, variable_syntax, power_syntax, side_syntax, times_syntax, over_syntax, inverse_syntax, bracket_syntax, no_units, more_units}
-use Rattle.um_types.specs.UnitGrammar.{Fits, ArePowers, rank}
+use Rattle.um_unit_texts.specs.UnitGrammar.{Fits, ArePowers, rank}
 use Rattle.um_vocabulary.specs.declared.vocabulary.Symbol.TheVariants as symbol
 use Rattle.um_show.specs.Pieces.{Piece, caret, times, over, bracket_close}
 use Rattle.um_show.specs.Layout.{power_pieces, unit_pieces, more_side_pieces}

@@ -7,9 +7,9 @@ use Rattle.um_syntax.specs.declared.token.Kind.TheVariants as kind
 use Rattle.um_vocabulary.specs.declared.vocabulary.Symbol.{Symbol}
 use Rattle.um_vocabulary.specs.declared.vocabulary.Symbol.TheVariants as symbol
 use Rattle.um_tree.specs.RawTree.{UnitSyntax, UnitSyntaxes, one_syntax, measure_syntax, variable_syntax, power_syntax, side_syntax, times_syntax, over_syntax, inverse_syntax, bracket_syntax, no_units, more_units}
-use Rattle.um_types.specs.UnitTokens.{unit_token}
-use Rattle.um_types.specs.UnitTokens.{sign as sign_token, measure as measure_token, variable as variable_token, number as number_token}
-use Rattle.um_types.specs.UnitGrammar.{Spells, AllSpell, PowerSpells, Digits, Fits, ArePowers, Several, rank}
+use Rattle.um_unit_texts.specs.UnitTokens.{unit_token}
+use Rattle.um_unit_texts.specs.UnitTokens.{sign as sign_token, measure as measure_token, variable as variable_token, number as number_token}
+use Rattle.um_unit_texts.specs.UnitGrammar.{Spells, AllSpell, PowerSpells, Digits, Fits, ArePowers, Several, rank}
 use Rattle.um_show.specs.Unplaced.{bare_unit, bare_units}
 use Rattle.um_tidy.specs.declared.stand.Next.{Next}
 use Rattle.um_tidy.specs.declared.stand.Next.TheVariants as next_of

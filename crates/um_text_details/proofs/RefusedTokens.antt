@@ -6,7 +6,7 @@ use Rattle.um_syntax.specs.Feeding.{IsTextAnswer}
 use Rattle.um_syntax.specs.Order.{AreInOrder}
 use Rattle.um_syntax.proofs.InOrder.{tokens_in_order}
 use Rattle.um_reader.specs.Texts.{BeginsTextWithin}
-use Rattle.um_types.specs.UnitStops.{greatest_height, place_of}
+use Rattle.um_unit_texts.specs.UnitStops.{greatest_height, place_of}
 use Rattle.um_types.specs.declared.parse.ParseStop.TheVariants as stop
 use Rattle.um_parse.specs.DeclGrammar.{IsProgram}
 use Rattle.um_parse.specs.Parsed.{Parsed}

@@ -9,7 +9,7 @@ use Rattle.um_syntax.specs.Lexing.{size_of, body, body_place, Lexes, HasTokens}
 use Rattle.um_syntax.proofs.InOrder.{body_size}
 use Rattle.um_syntax.proofs.Places.{size_of-append, size_of-chars}
 use Rattle.um_syntax.proofs.Texts.{head_of}
-use Rattle.um_types.specs.UnitStops.{place_of}
+use Rattle.um_unit_texts.specs.UnitStops.{place_of}
 use Rattle.um_text_details.specs.Stops.{number_at}
 
 -- each begins after the one before it

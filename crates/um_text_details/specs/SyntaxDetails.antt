@@ -6,7 +6,7 @@ use Rattle.std.specs.Prelude.{Option, Some, None}
 use Rattle.std.specs.List.{flat_map, list_any}
 use Rattle.um_syntax.specs.declared.token.Token.{Token}
 use Rattle.um_vocabulary.specs.declared.vocabulary.Keyword.TheVariants as keyword
-use Rattle.um_types.specs.UnitStops.{place_of}
+use Rattle.um_unit_texts.specs.UnitStops.{place_of}
 use Rattle.um_parse.specs.ProgramStops.{StopsAt}
 use Rattle.um_expected.specs.declared.word.Word.{Word}
 use Rattle.um_expected.specs.declared.word.Word.TheVariants as word

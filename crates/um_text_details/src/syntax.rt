@@ -4,7 +4,7 @@ ghost use Rattle.std.specs.Prelude.{Some, slice_get, take};
 ghost use Rattle.std.specs.List.{flat_map, list_any};
 ghost use Rattle.um_syntax.specs.Feeding.{IsTextAnswer};
 ghost use Rattle.um_reader.specs.Texts.{BeginsTextWithin};
-ghost use Rattle.um_types.specs.UnitStops.{greatest_height};
+ghost use Rattle.um_unit_texts.specs.UnitStops.{greatest_height};
 ghost use Rattle.um_types.specs.declared.parse.ParseStop.TheVariants as stop;
 ghost use Rattle.um_parse.specs.DeclGrammar.{IsProgram};
 ghost use Rattle.um_parse.specs.Parsed.{Parsed};

@@ -9,7 +9,7 @@ use Rattle.um_tree.specs.declared.raw.RawType.{RawType}
 use Rattle.um_tree.specs.RawTree.{TypeSyntax, note_syntax, type_syntax}
 use Rattle.um_reader.specs.Takes.{Gives, Takes}
 use Rattle.um_reader.specs.declared.taken.Taken.TheVariants as taken
-use Rattle.um_types.specs.UnitStops.{greatest_height}
+use Rattle.um_unit_texts.specs.UnitStops.{greatest_height}
 use Rattle.um_types.specs.TypeHeights.{whole_height, all_height}
 use Rattle.um_types.specs.NoteMachine.{NoteState, NeedNote, machine_of_notes}
 use Rattle.um_types.specs.TypeMachine.{Owner, OfName, TypeState, NeedType, HaveType, InNote, NoType, next_note, type_finish, type_least}

@@ -4,16 +4,16 @@ use Rattle.um_syntax.specs.declared.token.Token.{Token}
 use Rattle.um_syntax.specs.declared.token.Kind.{Kind}
 use Rattle.um_syntax.specs.declared.token.Kind.TheVariants as kind
 use Rattle.um_tree.specs.RawTree.{UnitSyntax, NoteSyntax, hole_syntax, unit_note_syntax}
-use Rattle.um_types.specs.UnitTokens.{unit_token}
-use Rattle.um_types.specs.UnitGrammar.{Fits}
-use Rattle.um_types.specs.UnitMachine.{State, Need, Have, Raised, Lowered, Refused, act, unit_step, finish, is_foreign}
+use Rattle.um_unit_texts.specs.UnitTokens.{unit_token}
+use Rattle.um_unit_texts.specs.UnitGrammar.{Fits}
+use Rattle.um_unit_texts.specs.UnitMachine.{State, Need, Have, Raised, Lowered, Refused, act, unit_step, finish, is_foreign}
 use Rattle.um_types.specs.TypeGrammar.{BeginsAt, NoteSpells, NoteFits}
 use Rattle.um_reader.specs.Machine.{runs, Reaches}
 use Rattle.um_types.specs.NoteMachine.{NoteState, NeedNote, HaveHole, InUnit, NoNote, unit_goes, note_begin, note_act, note_step, noted, note_finish}
 use Rattle.um_reader.proofs.Reaching.{runs_refused, reaches_one, lift}
-use Rattle.um_types.proofs.UnitComplete.{into}
-use Rattle.um_types.proofs.UnitNested.{unit_finds, unit_reaches}
-use Rattle.um_types.proofs.ForeignTokens.{foreign_refused}
+use Rattle.um_unit_texts.proofs.UnitComplete.{into}
+use Rattle.um_unit_texts.proofs.UnitNested.{unit_finds, unit_reaches}
+use Rattle.um_unit_texts.proofs.ForeignTokens.{foreign_refused}
 
 -- the state once a note was read
 abbrev pub note_into : NoteSyntax → NoteState

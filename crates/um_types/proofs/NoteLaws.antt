@@ -4,15 +4,15 @@ use Rattle.um_syntax.specs.declared.token.Token.{Token}
 use Rattle.um_syntax.specs.declared.token.Kind.{Kind}
 use Rattle.um_syntax.specs.declared.token.Kind.TheVariants as kind
 use Rattle.um_tree.specs.RawTree.{UnitSyntax, NoteSyntax, hole_syntax, unit_note_syntax}
-use Rattle.um_types.specs.UnitTokens.{unit_token}
-use Rattle.um_types.specs.UnitMachine.{Frame, State, Need, Have, Raised, Lowered, Refused, act, unit_step, finish}
-use Rattle.um_types.specs.UnitLeast.{least}
+use Rattle.um_unit_texts.specs.UnitTokens.{unit_token}
+use Rattle.um_unit_texts.specs.UnitMachine.{Frame, State, Need, Have, Raised, Lowered, Refused, act, unit_step, finish}
+use Rattle.um_unit_texts.specs.UnitLeast.{least}
 use Rattle.um_types.specs.TypeGrammar.{FirstHole, BeginsAt, NoteSpells, NoteFits}
 use Rattle.um_types.specs.TypeHeights.{note_height}
 use Rattle.um_types.specs.NoteMachine.{NoteState, NeedNote, HaveHole, InUnit, NoNote, unit_goes, note_begin, note_step, noted, note_finish, note_least}
-use Rattle.um_types.proofs.UnitLaws.{ending_of, completed}
-use Rattle.um_types.proofs.UnitHeights.{completed_height, unit_up, found_height}
-use Rattle.um_types.proofs.UnitNested.{UnitSpellsPrefix, unit_begins, unit_sound, unit_found, unit_can_end}
+use Rattle.um_unit_texts.proofs.UnitLaws.{ending_of, completed}
+use Rattle.um_unit_texts.proofs.UnitHeights.{completed_height, unit_up, found_height}
+use Rattle.um_unit_texts.proofs.UnitNested.{UnitSpellsPrefix, unit_begins, unit_sound, unit_found, unit_can_end}
 
 -- the tokens up to the rest are those of the state
 abbrev pub NoteSpellsPrefix : NoteState → List Token → List Token → Type 0

@@ -6,15 +6,15 @@ use Rattle.um_tree.specs.RawTree.{UnitSyntax, NoteSyntax, TypeSyntax}
 use Rattle.um_tree.specs.Heights.{unit_height}
 use Rattle.um_reader.specs.Machine.{runs, IsReaderOf}
 use Rattle.um_reader.proofs.Reaching.{reaches_all, runs_sound}
-use Rattle.um_types.specs.UnitGrammar.{IsUnit}
+use Rattle.um_unit_texts.specs.UnitGrammar.{IsUnit}
 use Rattle.um_types.specs.TypeGrammar.{IsNote, IsType}
 use Rattle.um_types.specs.TypeHeights.{note_height, whole_height}
-use Rattle.um_types.specs.UnitMachine.{Need, Refused, run}
-use Rattle.um_types.specs.UnitLeast.{least, machine_of_units}
+use Rattle.um_unit_texts.specs.UnitMachine.{Need, Refused, run}
+use Rattle.um_unit_texts.specs.UnitLeast.{least, machine_of_units}
 use Rattle.um_types.specs.NoteMachine.{NeedNote, NoNote, note_step, note_finish, note_least, machine_of_notes}
 use Rattle.um_types.specs.TypeMachine.{NeedType, HaveType, NoType, type_step, type_finish, type_least, machine_of_types}
-use Rattle.um_types.proofs.UnitLaws.{ending_of, completed, can_go_on, finds, found}
-use Rattle.um_types.proofs.UnitHeights.{completed_height, unit_up, found_height}
+use Rattle.um_unit_texts.proofs.UnitLaws.{ending_of, completed, can_go_on, finds, found}
+use Rattle.um_unit_texts.proofs.UnitHeights.{completed_height, unit_up, found_height}
 use Rattle.um_types.proofs.NoteComplete.{note_into, note_reaches, note_finds}
 use Rattle.um_types.proofs.NoteLaws.{NoteSpellsPrefix, note_sound, note_found, note_ending, note_completed, note_can_end, note_completed_height, note_up, note_found_height}
 use Rattle.um_types.proofs.TypeComplete.{type_reaches}

@@ -9,7 +9,7 @@ use Rattle.um_tree.specs.RawTree.{TypeSyntax}
 use Rattle.um_types.specs.TypeGrammar.{FirstSign, TypeSpells, TypeFits}
 use Rattle.um_types.specs.TypeHeights.{whole_height, all_height}
 use Rattle.um_types.specs.SignatureGrammar.{TypesSpell, TypesFit, IsSignature}
-use Rattle.um_types.specs.UnitStops.{greatest_height}
+use Rattle.um_unit_texts.specs.UnitStops.{greatest_height}
 use Rattle.um_types.specs.Laws.{SignatureAnswersExclude}
 use Rattle.um_reader.specs.Machine.{Reaches, IsReaderOf}
 use Rattle.um_types.specs.NoteMachine.{NoteState}

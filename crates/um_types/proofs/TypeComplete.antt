@@ -7,13 +7,13 @@ use Rattle.um_syntax.specs.declared.token.Kind.TheVariants as kind
 use Rattle.um_vocabulary.specs.declared.vocabulary.Keyword.TheVariants as keyword
 use Rattle.um_vocabulary.specs.declared.vocabulary.Symbol.TheVariants as symbol
 use Rattle.um_tree.specs.RawTree.{NoteSyntax, TypeSyntax, bool_syntax, num_syntax, record_syntax, list_type_syntax, bracket_type_syntax}
-use Rattle.um_types.specs.UnitTokens.{unit_token}
+use Rattle.um_unit_texts.specs.UnitTokens.{unit_token}
 use Rattle.um_types.specs.TypeGrammar.{FirstKind, FirstSign, NoteSpells, NotesSpell, AngledSpell, TypeSpells, NoteFits, NotesFit, TypeFits, at_most_one}
 use Rattle.um_reader.specs.Machine.{Reaches}
 use Rattle.um_types.specs.NoteMachine.{NoteState, NeedNote, HaveHole, InUnit, NoNote, note_step, note_finish}
 use Rattle.um_types.specs.TypeMachine.{Owner, OfNum, OfName, TypeState, NeedType, HaveType, InNote, NoType, type_begin, type_after, note_end, note_ends, note_goes, type_act, type_step}
 use Rattle.um_reader.proofs.Reaching.{reaches_one, reaches_then, reaches_inside}
-use Rattle.um_types.specs.UnitMachine.{is_foreign}
+use Rattle.um_unit_texts.specs.UnitMachine.{is_foreign}
 use Rattle.um_types.proofs.NoteComplete.{note_into, note_reaches, note_finds, note_stops}
 
 abbrev pub TypeReaches : TypeState → List Token → TypeState → List Token → Type 0

@@ -4,12 +4,12 @@ use Rattle.um_syntax.specs.declared.token.Token.{Token}
 use Rattle.um_tree.specs.Heights.{unit_height}
 use Rattle.um_reader.specs.Stops.{HasOneReading, HasOneAnswer}
 use Rattle.um_reader.specs.Readers.{ReadsTexts}
-use Rattle.um_types.specs.UnitStops.{greatest_height}
-use Rattle.um_types.specs.UnitGrammar.{IsUnit}
+use Rattle.um_unit_texts.specs.UnitStops.{greatest_height}
+use Rattle.um_unit_texts.specs.UnitGrammar.{IsUnit}
 use Rattle.um_types.specs.TypeGrammar.{IsNote, IsType}
 use Rattle.um_types.specs.TypeHeights.{note_height, whole_height, all_height}
 use Rattle.um_types.specs.SignatureGrammar.{IsSignature}
-use Rattle.um_types.specs.UnitLeast.{machine_of_units}
+use Rattle.um_unit_texts.specs.UnitLeast.{machine_of_units}
 use Rattle.um_types.specs.NoteMachine.{machine_of_notes}
 use Rattle.um_types.specs.TypeMachine.{machine_of_types}
 use Rattle.um_types.specs.SignatureMachine.{machine_of_signatures}

@@ -6,9 +6,9 @@ use Rattle.um_syntax.specs.declared.token.Kind.{Kind}
 use Rattle.um_syntax.specs.declared.token.Kind.TheVariants as kind
 use Rattle.um_reader.specs.Machine.{Machine}
 use Rattle.um_tree.specs.RawTree.{UnitSyntax, NoteSyntax, hole_syntax, unit_note_syntax}
-use Rattle.um_types.specs.UnitTokens.{unit_token}
-use Rattle.um_types.specs.UnitMachine.{State, Need, Have, Raised, Lowered, Refused, act, finish}
-use Rattle.um_types.specs.UnitLeast.{least}
+use Rattle.um_unit_texts.specs.UnitTokens.{unit_token}
+use Rattle.um_unit_texts.specs.UnitMachine.{State, Need, Have, Raised, Lowered, Refused, act, finish}
+use Rattle.um_unit_texts.specs.UnitLeast.{least}
 
 pub data NoteState : Type 0 where
   NeedNote : NoteState

@@ -1,9 +1,9 @@
 -- What was read of a note, without where it lies in memory.
 -- Source: this project's own.
 use Rattle.std.specs.Prelude.{[]}
-use Rattle.um_types.specs.UnitMachine.{Have}
-use Rattle.um_types.specs.UnitFrames.{operand_syntax}
-use Rattle.um_types.specs.UnitView.{unit_state}
+use Rattle.um_unit_texts.specs.UnitMachine.{Have}
+use Rattle.um_unit_texts.specs.UnitFrames.{operand_syntax}
+use Rattle.um_unit_texts.specs.UnitView.{unit_state}
 use Rattle.um_types.specs.NoteMachine.{NoteState, NeedNote, HaveHole, InUnit}
 use Rattle.um_types.specs.declared.note_reader.NoteFocus.{NoteFocus}
 use Rattle.um_types.specs.declared.note_reader.NoteFocus.TheVariants as focus

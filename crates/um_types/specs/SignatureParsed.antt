@@ -7,7 +7,7 @@ use Rattle.um_tree.specs.RawTree.{type_syntaxes}
 use Rattle.um_types.specs.declared.parse.LimitKind.TheVariants as limit
 use Rattle.um_types.specs.declared.parse.ParseStop.{ParseStop}
 use Rattle.um_types.specs.declared.parse.ParseStop.TheVariants as stop
-use Rattle.um_types.specs.UnitStops.{greatest_height, place_of}
+use Rattle.um_unit_texts.specs.UnitStops.{greatest_height, place_of}
 use Rattle.um_types.specs.TypeHeights.{all_height}
 use Rattle.um_types.specs.SignatureGrammar.{IsSignature, SignatureFails, SignatureHighAt}
 

@@ -14,7 +14,7 @@ use Rattle.um_vocabulary.specs.declared.vocabulary.Symbol.{Symbol}
 use Rattle.um_vocabulary.specs.declared.vocabulary.Symbol.TheVariants as symbol
 use Rattle.um_tree.specs.RawTree.{NoteSyntax, hole_syntax, unit_note_syntax, TypeSyntax, bool_syntax, num_syntax}
 use Rattle.um_tree.specs.RawTree.{record_syntax, list_type_syntax, bracket_type_syntax}
-use Rattle.um_types.specs.UnitGrammar.{Spells, Fits}
+use Rattle.um_unit_texts.specs.UnitGrammar.{Spells, Fits}
 
 -- the first token is of this kind, and the others are the rest
 abbrev pub FirstKind : Kind → List Token → List Token → Type 0

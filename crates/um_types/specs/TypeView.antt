@@ -3,7 +3,7 @@
 use Rattle.std.specs.Prelude.{◌≡◌, ℕ, ◌+◌, ◌≤◌, max, Some, None, Result, Ok, Err}
 use Rattle.um_tree.specs.declared.raw.RawType.{RawType}
 use Rattle.um_tree.specs.RawTree.{NoteSyntax, TypeSyntax, note_syntaxes, type_syntax}
-use Rattle.um_types.specs.UnitStops.{greatest_height}
+use Rattle.um_unit_texts.specs.UnitStops.{greatest_height}
 use Rattle.um_types.specs.TypeHeights.{note_height}
 use Rattle.um_types.specs.NoteMachine.{note_finish}
 use Rattle.um_types.specs.NoteView.{note_state}

@@ -7,7 +7,7 @@ use Rattle.um_tree.specs.RawTree.{unit_syntax}
 use Rattle.um_types.specs.declared.parse.LimitKind.TheVariants as limit
 use Rattle.um_types.specs.declared.parse.ParseStop.{ParseStop}
 use Rattle.um_types.specs.declared.parse.ParseStop.TheVariants as stop
-use Rattle.um_types.specs.UnitStops.{place_of, Reads, Misread, HighAt}
+use Rattle.um_unit_texts.specs.UnitStops.{place_of, Reads, Misread, HighAt}
 
 abbrev pub Parsed : List Token → ℕ → ℕ → Result (RawUnit × ℕ) ParseStop → Type 0
 Parsed tokens from end (Ok (u, n)) = (k : ℕ) × (n ≡ from + k) × Reads (drop from tokens) k (unit_syntax u)

@@ -2,14 +2,12 @@
 ghost use Rattle.std.specs.Prelude.{◌≡◌, IfOk, option_map};
 ghost use Rattle.um_tree.specs.RawTree.{note_syntax, unit_syntax};
 ghost use Rattle.um_reader.specs.Takes.{Takes};
-ghost use Rattle.um_types.specs.UnitStops.{greatest_height};
-ghost use Rattle.um_types.specs.UnitView.{unit_state};
+ghost use Rattle.um_unit_texts.specs.UnitStops.{greatest_height};
+ghost use Rattle.um_unit_texts.specs.UnitView.{unit_state};
 ghost use Rattle.um_types.specs.NoteMachine.{NeedNote, InUnit, noted, note_finish, machine_of_notes};
 ghost use Rattle.um_types.specs.NoteView.{note_state};
 
-use crate::unit_machine::is_foreign;
-use crate::unit_operand::Operand;
-use crate::unit_reader::UnitReader;
+use um_unit_texts::{Operand, UnitReader, is_foreign};
 use std::alloc::{AllocError, Global};
 use std::mem;
 use um_reader::{Reader, Taken};

@@ -29,7 +29,7 @@ impl SignatureReader {
     ghost use Rattle.um_tree.specs.RawTree.{TypeSyntax};
     ghost use Rattle.std.specs.Prelude.{Some};
     ghost use Rattle.um_reader.specs.Takes.{Gives};
-    ghost use Rattle.um_types.specs.UnitStops.{greatest_height};
+    ghost use Rattle.um_unit_texts.specs.UnitStops.{greatest_height};
     ghost use Rattle.um_types.specs.TypeHeights.{whole_height, all_height};
     ghost use Rattle.um_types.specs.TypeMachine.{type_finish};
     ghost use Rattle.um_types.specs.TypeView.{type_state};
@@ -78,7 +78,7 @@ impl Reader for SignatureReader {
     ghost use Rattle.std.proofs.Common.{arith};
     ghost use Rattle.um_tree.specs.RawTree.{TypeSyntax, type_syntaxes};
     ghost use Rattle.um_reader.specs.Takes.{Takes};
-    ghost use Rattle.um_types.specs.UnitStops.{greatest_height};
+    ghost use Rattle.um_unit_texts.specs.UnitStops.{greatest_height};
     ghost use Rattle.um_types.specs.SignatureMachine.{SignatureState, signature_finish, signature_least};
     ghost use Rattle.um_types.specs.SignatureMachine.{machine_of_signatures};
     ghost use Rattle.um_types.specs.SignatureView.{signature_state};

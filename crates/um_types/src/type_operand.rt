@@ -3,9 +3,9 @@ ghost use Rattle.std.specs.Prelude.{◌≡◌, ◌≤◌, IfOk, None, Some};
 ghost use Rattle.um_tree.specs.RawTree.{bool_syntax, num_syntax, record_syntax, list_type_syntax, bracket_type_syntax};
 ghost use Rattle.um_tree.specs.RawTree.{note_syntax, type_syntax};
 ghost use Rattle.um_tree.specs.Heights.{type_height};
-ghost use Rattle.um_types.specs.UnitStops.{greatest_height};
+ghost use Rattle.um_unit_texts.specs.UnitStops.{greatest_height};
 
-use crate::name::name_of;
+use um_unit_texts::name_of;
 use std::alloc::{AllocError, Global};
 use um_syntax::Letters;
 use um_tree::{Name, RawNote, RawNotes, RawType};

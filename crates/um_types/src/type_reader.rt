@@ -2,7 +2,7 @@
 ghost use Rattle.std.specs.Prelude.{◌≡◌, false, suc, ◌+◌, ◌≤◌, IfOk, None, max, option_map};
 ghost use Rattle.um_tree.specs.RawTree.{TypeSyntax, num_syntax, list_type_syntax, note_syntax, type_syntax};
 ghost use Rattle.um_reader.specs.Takes.{Gives, Takes};
-ghost use Rattle.um_types.specs.UnitStops.{greatest_height};
+ghost use Rattle.um_unit_texts.specs.UnitStops.{greatest_height};
 ghost use Rattle.um_types.specs.TypeHeights.{note_height};
 ghost use Rattle.um_types.specs.NoteMachine.{NeedNote, note_finish};
 ghost use Rattle.um_types.specs.TypeMachine.{OfNum, NeedType, HaveType, InNote, NoType, type_begin, type_after};
@@ -11,7 +11,7 @@ ghost use Rattle.um_types.specs.TypeMachine.{type_finish, type_least, owner_heig
 ghost use Rattle.um_types.specs.TypeView.{operand_type, view_owner, type_state, IsLow};
 ghost use Rattle.um_types.specs.NoteView.{note_state};
 
-use crate::height::GREATEST_HEIGHT;
+use um_unit_texts::GREATEST_HEIGHT;
 use crate::note_reader::NoteReader;
 use crate::type_operand::{Owner, TypeFocus, TypeOperand};
 use std::alloc::{AllocError, Global};

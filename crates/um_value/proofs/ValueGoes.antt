@@ -16,9 +16,9 @@ use Rattle.um_reader.specs.Machine.{runs}
 use Rattle.um_reader.proofs.Reaching.{runs_refused}
 use Rattle.um_reader.proofs.Readers.{none_some}
 use Rattle.um_types.specs.TypeGrammar.{FirstSign}
-use Rattle.um_types.specs.UnitTokens.{sign}
+use Rattle.um_unit_texts.specs.UnitTokens.{sign}
 use Rattle.um_types.specs.NoteMachine.{NoteState, NeedNote, HaveHole, InUnit, NoNote, unit_goes, note_act, note_step, note_finish}
-use Rattle.um_types.proofs.ForeignTokens.{foreign_refused}
+use Rattle.um_unit_texts.proofs.ForeignTokens.{foreign_refused}
 use Rattle.um_types.proofs.ReaderLaws.{notes_read}
 use Rattle.um_value.specs.ValueSyntax.{ValueSyntax, ValueSyntaxes, raw_truth, raw_number, raw_list, raw_record, raw_none, raw_more, behind}
 use Rattle.um_value.specs.ValueGrammar.{WrittenSpells, PlainSpells, NamedSpells, Spells, ItemsSpell, FieldsSpell}

@@ -11,8 +11,8 @@ use Rattle.um_reader.specs.declared.reading.ReadStop.TheVariants as read_stop
 use Rattle.um_reader.specs.declared.taken.Taken.TheVariants as taken
 use Rattle.um_reader.proofs.Loop.{Stands, through, too_high}
 use Rattle.um_reader.proofs.Answers.{reads_all}
-use Rattle.um_types.specs.UnitStops.{greatest_height}
-use Rattle.um_types.proofs.TokenPlaces.{place_at, place_behind}
+use Rattle.um_unit_texts.specs.UnitStops.{greatest_height}
+use Rattle.um_unit_texts.proofs.TokenPlaces.{place_at, place_behind}
 use Rattle.um_value.specs.declared.raw.RawValue.{RawValue}
 use Rattle.um_value.specs.declared.stop.InputStop.{InputStop}
 use Rattle.um_value.specs.declared.stop.InputStop.TheVariants as stop

@@ -6,7 +6,7 @@ use Rattle.um_tree.specs.ProgramTree.{RecordTree}
 use Rattle.um_reader.specs.Takes.{Takes}
 use Rattle.um_reader.specs.declared.taken.Taken.{Taken}
 use Rattle.um_reader.specs.declared.taken.Taken.TheVariants as taken
-use Rattle.um_types.specs.UnitStops.{greatest_height}
+use Rattle.um_unit_texts.specs.UnitStops.{greatest_height}
 use Rattle.um_types.specs.NoteMachine.{NoteState, NoNote, note_step, note_finish, machine_of_notes}
 use Rattle.um_value.specs.ValueSyntax.{ValueSyntax}
 use Rattle.um_value.specs.ValueMachine.{Frame, ValueState, InNote, Have, NoValue, note_ends, note_goes, own_act, value_step, value_finish, value_least}

@@ -11,7 +11,7 @@ use Rattle.um_tree.specs.Formed.{IsUnitIn, IsFormedInput}
 use Rattle.um_measures.specs.declared.abbreviation.Abbreviation.{Abbreviation}
 use Rattle.um_measures.specs.Known.{Known, measure_unit}
 use Rattle.um_reader.specs.Stops.{Fails, HighAt}
-use Rattle.um_types.specs.UnitStops.{greatest_height}
+use Rattle.um_unit_texts.specs.UnitStops.{greatest_height}
 use Rattle.um_units.specs.PowerMap.{PowerMap}
 use Rattle.um_value.specs.ValueSyntax.{value_syntax}
 use Rattle.um_value.specs.ValueGrammar.{IsValueText, value_height}

@@ -10,7 +10,7 @@ use Rattle.um_tree.specs.TypeTree.{ShapeTree}
 use Rattle.um_tree.specs.ValueTree.{input_tree}
 use Rattle.um_tree.specs.declared.value.Input.{Input}
 use Rattle.um_measures.specs.Known.{Known, measure_unit}
-use Rattle.um_types.specs.UnitStops.{greatest_height, place_of}
+use Rattle.um_unit_texts.specs.UnitStops.{greatest_height, place_of}
 use Rattle.um_value.specs.declared.stop.InputStop.{InputStop}
 use Rattle.um_value.specs.declared.stop.InputStop.TheVariants as stop
 use Rattle.um_value.specs.ValueSyntax.{ValueSyntax}

@@ -12,7 +12,7 @@ use Rattle.um_tree.specs.declared.value.Input.{Input}
 use Rattle.um_reader.specs.Machine.{Machine}
 use Rattle.um_reader.specs.RunTo.{RunAll}
 use Rattle.um_reader.specs.declared.reading.ReadStop.TheVariants as read_stop
-use Rattle.um_types.specs.UnitStops.{greatest_height, place_of}
+use Rattle.um_unit_texts.specs.UnitStops.{greatest_height, place_of}
 use Rattle.um_value.specs.declared.raw.RawValue.{RawValue}
 use Rattle.um_value.specs.declared.stop.InputStop.{InputStop}
 use Rattle.um_value.specs.declared.stop.InputStop.TheVariants as stop

@@ -6,7 +6,7 @@ use Rattle.um_syntax.specs.declared.token.Token.{Token}
 use Rattle.um_tree.specs.TypeTree.{ShapeTree}
 use Rattle.um_tree.specs.ProgramTree.{RecordTree}
 use Rattle.um_reader.specs.Texts.{BeginsTextWithin}
-use Rattle.um_types.specs.UnitStops.{greatest_height}
+use Rattle.um_unit_texts.specs.UnitStops.{greatest_height}
 use Rattle.um_value.specs.ValueSyntax.{ValueSyntax}
 use Rattle.um_value.specs.ValueGrammar.{IsValueText, value_height}
 

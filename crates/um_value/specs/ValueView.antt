@@ -8,7 +8,7 @@ use Rattle.um_reader.specs.declared.taken.Taken.TheVariants as taken
 use Rattle.um_tree.specs.TypeTree.{ShapeTree, bool_shape, num_shape, list_shape, record_shape, shape_tree, type_tree}
 use Rattle.um_tree.specs.ProgramTree.{RecordTree, field_tree}
 use Rattle.um_tree.specs.Shapes.{type_shape}
-use Rattle.um_types.specs.UnitStops.{greatest_height}
+use Rattle.um_unit_texts.specs.UnitStops.{greatest_height}
 use Rattle.um_types.specs.NoteView.{note_state}
 use Rattle.um_value.specs.ValueSyntax.{ValueSyntax, value_syntax}
 use Rattle.um_value.specs.ValueMachine.{Frame, InList, InRecord, ValueState, Need, Begun, Negative, Counted, InNote}

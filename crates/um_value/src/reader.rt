@@ -3,7 +3,7 @@ ghost use Rattle.std.specs.Prelude.{◌≡◌, ◌≤◌, [], None, Some, IfOk, 
 ghost use Rattle.um_tree.specs.RawTree.{note_syntax};
 ghost use Rattle.um_tree.specs.TypeTree.{shape_tree};
 ghost use Rattle.um_tree.specs.ProgramTree.{record_tree, field_tree};
-ghost use Rattle.um_types.specs.UnitStops.{greatest_height};
+ghost use Rattle.um_unit_texts.specs.UnitStops.{greatest_height};
 ghost use Rattle.um_types.specs.NoteMachine.{note_finish};
 ghost use Rattle.um_types.specs.NoteView.{note_state};
 ghost use Rattle.um_value.specs.ValueSyntax.{raw_number, value_syntax};

@@ -3,7 +3,7 @@ ghost use Rattle.std.specs.Prelude.{◌≡◌, ◌≤◌, Err, IfOk, map};
 ghost use Rattle.um_tree.specs.Formed.{IsFormed};
 ghost use Rattle.um_tree.specs.TypeTree.{shape_tree};
 ghost use Rattle.um_tree.specs.ProgramTree.{record_tree, program_tree};
-ghost use Rattle.um_types.specs.UnitStops.{greatest_height};
+ghost use Rattle.um_unit_texts.specs.UnitStops.{greatest_height};
 ghost use Rattle.um_value.specs.ValueGrammar.{IsShapeIn};
 ghost use Rattle.um_value.specs.ValueMachine.{value_least, machine_of_values};
 ghost use Rattle.um_value.specs.ValueView.{value_state, ValueTakes};

@@ -2,7 +2,7 @@ use Rattle.std.proofs.Common.{ap, arith, length, subst, sym, ◌∙◌}
 use Rattle.std.proofs.lemmas.List.{take_all}
 use Rattle.um_reader.specs.Texts.{BeginsTextWithin}
 use Rattle.um_reader.proofs.Texts.{within_before}
-use Rattle.um_types.specs.UnitStops.{greatest_height}
+use Rattle.um_unit_texts.specs.UnitStops.{greatest_height}
 use Rattle.um_parse.specs.DeclGrammar.{IsProgram}
 use Rattle.um_parse.specs.ProgramHeights.{program_height}
 use Rattle.um_expected.proofs.part.last_part.Goals as goal

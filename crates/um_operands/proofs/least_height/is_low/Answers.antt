@@ -1,5 +1,5 @@
 use Rattle.std.proofs.Common.{◌+◌, ap, ◌∙◌}
-use Rattle.um_types.specs.UnitCount.{counted}
+use Rattle.um_unit_texts.specs.UnitCount.{counted}
 use Rattle.um_operands.proofs.ExprLow.{low_same}
 use Rattle.um_operands.proofs.least_height.is_low.Goals as goal
 

@@ -3,7 +3,7 @@ use Rattle.std.proofs.lemmas.List.{length-set, get_or_default}
 use Rattle.um_reader.specs.Takes.{Takes}
 use Rattle.um_reader.specs.declared.taken.Taken.TheVariants as taken
 use Rattle.um_reader.proofs.Loop.{goes}
-use Rattle.um_types.specs.UnitStops.{greatest_height}
+use Rattle.um_unit_texts.specs.UnitStops.{greatest_height}
 use Rattle.um_parse.specs.ProgramLeast.{program_least, machine_of_programs}
 use Rattle.um_parse.specs.ReaderStates.{program_state}
 use Rattle.um_parse.proofs.ProgramParsed.{refused_at, high_at, all_read, none_read}

@@ -1,6 +1,6 @@
 use Rattle.um_tree.specs.RawTree.{program_syntax}
 use Rattle.um_reader.proofs.Answers.{reads_all}
-use Rattle.um_types.specs.UnitStops.{greatest_height}
+use Rattle.um_unit_texts.specs.UnitStops.{greatest_height}
 use Rattle.um_parse.proofs.ProgramLow.{programs_read}
 use Rattle.um_parse.proofs.program_parse.read_program.Goals as goal
 

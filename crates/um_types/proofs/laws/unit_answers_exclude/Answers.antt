@@ -1,8 +1,8 @@
 use Rattle.um_tree.specs.Heights.{unit_height}
 use Rattle.um_reader.proofs.Readers.{unambiguous}
 use Rattle.um_reader.proofs.Answers.{one_reading}
-use Rattle.um_types.specs.UnitStops.{greatest_height}
-use Rattle.um_types.specs.UnitGrammar.{IsUnit}
+use Rattle.um_unit_texts.specs.UnitStops.{greatest_height}
+use Rattle.um_unit_texts.specs.UnitGrammar.{IsUnit}
 use Rattle.um_types.proofs.ReaderLaws.{units_read}
 use Rattle.um_types.proofs.laws.unit_answers_exclude.Goals as goal
 

@@ -1,6 +1,6 @@
 use Rattle.um_tree.specs.RawTree.{type_syntaxes}
 use Rattle.um_reader.proofs.Answers.{reads_all}
-use Rattle.um_types.specs.UnitStops.{greatest_height}
+use Rattle.um_unit_texts.specs.UnitStops.{greatest_height}
 use Rattle.um_types.proofs.SignatureLaws.{signatures_read}
 use Rattle.um_types.proofs.parse.read_signature.Goals as goal
 

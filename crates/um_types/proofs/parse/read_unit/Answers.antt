@@ -1,6 +1,6 @@
 use Rattle.um_tree.specs.RawTree.{unit_syntax}
 use Rattle.um_reader.proofs.Answers.{reads_to}
-use Rattle.um_types.specs.UnitStops.{greatest_height}
+use Rattle.um_unit_texts.specs.UnitStops.{greatest_height}
 use Rattle.um_types.proofs.ReaderLaws.{units_read}
 use Rattle.um_types.proofs.parse.read_unit.Goals as goal
 

@@ -1,6 +1,6 @@
 use Rattle.um_reader.proofs.Readers.{unambiguous}
 use Rattle.um_reader.proofs.Answers.{one_answer}
-use Rattle.um_types.specs.UnitStops.{greatest_height}
+use Rattle.um_unit_texts.specs.UnitStops.{greatest_height}
 use Rattle.um_value.specs.ValueGrammar.{IsValueText, value_height}
 use Rattle.um_value.proofs.ValueLaws.{values_read}
 use Rattle.um_value.proofs.laws.value_answers_exclude.Goals as goal

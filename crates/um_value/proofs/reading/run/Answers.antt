@@ -5,7 +5,7 @@ use Rattle.std.proofs.lemmas.Iterator.Adapters.{YieldsList-from_vec}
 use Rattle.um_tree.specs.TypeTree.{shape_tree}
 use Rattle.um_tree.specs.ProgramTree.{record_tree}
 use Rattle.um_reader.proofs.Loop.{Stands, goes}
-use Rattle.um_types.specs.UnitStops.{greatest_height}
+use Rattle.um_unit_texts.specs.UnitStops.{greatest_height}
 use Rattle.um_value.specs.ValueMachine.{value_least, machine_of_values}
 use Rattle.um_value.specs.ValueView.{value_state}
 use Rattle.um_value.proofs.ValueLoop.{refused_at, high_at}

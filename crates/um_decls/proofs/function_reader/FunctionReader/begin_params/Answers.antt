@@ -1,7 +1,7 @@
 use Rattle.std.proofs.Common.{[], map, ap, subst, arith}
 use Rattle.um_tree.specs.RawTree.{var_syntax}
 use Rattle.um_reader.specs.Takes.{Gives}
-use Rattle.um_types.specs.UnitStops.{greatest_height}
+use Rattle.um_unit_texts.specs.UnitStops.{greatest_height}
 use Rattle.um_forms.specs.ExprTokens.{expr_token}
 use Rattle.um_decls.specs.DeclMachine.{NoDecl, started, take_params}
 use Rattle.um_decls.specs.DeclHeights.{params_height}

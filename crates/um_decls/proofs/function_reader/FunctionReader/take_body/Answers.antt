@@ -3,7 +3,7 @@ use Rattle.std.proofs.lemmas.Result.{IfOk-weaker}
 use Rattle.um_tree.specs.declared.raw.RawType.{RawType}
 use Rattle.um_tree.specs.RawTree.{written_type}
 use Rattle.um_reader.specs.Takes.{Takes}
-use Rattle.um_types.specs.UnitStops.{greatest_height}
+use Rattle.um_unit_texts.specs.UnitStops.{greatest_height}
 use Rattle.um_types.specs.TypeView.{type_state}
 use Rattle.um_expr.specs.ExprMachine.{machine_of_expressions}
 use Rattle.um_expr.specs.ExprStates.{expr_state}

@@ -1,5 +1,5 @@
 use Rattle.std.proofs.Common.{◌≤◌, sym, subst, arith}
-use Rattle.um_types.specs.UnitStops.{greatest_height}
+use Rattle.um_unit_texts.specs.UnitStops.{greatest_height}
 use Rattle.um_types.specs.TypeView.{type_state}
 use Rattle.um_decls.specs.DeclLeast.{decl_least}
 use Rattle.um_decls.specs.DeclViews.{read_fields, field_state}

@@ -2,7 +2,7 @@ use Rattle.std.proofs.Common.{sym, subst}
 use Rattle.std.specs.Bool.{Decides}
 use Rattle.std.specs.Result.{IfOk}
 use Rattle.um_reader.specs.Texts.{BeginsTextWithin}
-use Rattle.um_types.specs.UnitStops.{greatest_height}
+use Rattle.um_unit_texts.specs.UnitStops.{greatest_height}
 use Rattle.um_parse.specs.DeclGrammar.{IsProgram}
 use Rattle.um_parse.specs.ProgramHeights.{program_height}
 use Rattle.um_expected.specs.Expected.{IsWhole}

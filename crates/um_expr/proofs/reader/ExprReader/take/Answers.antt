@@ -4,7 +4,7 @@ use Rattle.um_syntax.specs.declared.token.Token.{Token}
 use Rattle.um_syntax.specs.Emptied.{emptied}
 use Rattle.um_reader.specs.Takes.{Gives, Takes}
 use Rattle.um_reader.specs.declared.taken.Taken.TheVariants as taken
-use Rattle.um_types.specs.UnitStops.{greatest_height}
+use Rattle.um_unit_texts.specs.UnitStops.{greatest_height}
 use Rattle.um_types.specs.NoteView.{note_state}
 use Rattle.um_types.specs.TypeView.{type_state}
 use Rattle.um_operands.specs.ExprBegun.{Need, InNote, InType}

@@ -2,7 +2,7 @@ use Rattle.std.proofs.Common.{◌≡◌, map}
 use Rattle.std.proofs.lemmas.Result.{IfOk-weaker}
 use Rattle.um_tree.specs.RawTree.{decl_syntax}
 use Rattle.um_reader.specs.Takes.{Gives, Takes}
-use Rattle.um_types.specs.UnitStops.{greatest_height}
+use Rattle.um_unit_texts.specs.UnitStops.{greatest_height}
 use Rattle.um_decls.specs.DeclMachine.{DeclBegin, Expects, ProgramState, InProgram, decl_step, decl_finish, next_decl, program_found, program_finish}
 use Rattle.um_parse.specs.ProgramLeast.{machine_of_programs}
 use Rattle.um_parse.specs.ReaderStates.{reader_state, program_state}

@@ -1,14 +1,14 @@
 use Rattle.std.proofs.Common.{[], refl, sym, ap, subst, ◌∙◌}
 use Rattle.um_reader.specs.Takes.{Takes}
 use Rattle.um_reader.specs.declared.taken.Taken.TheVariants as taken
-use Rattle.um_types.specs.UnitStops.{greatest_height}
-use Rattle.um_types.specs.UnitTokens.{unit_token}
-use Rattle.um_types.specs.UnitMachine.{Have}
-use Rattle.um_types.specs.UnitFrames.{operand_syntax}
+use Rattle.um_unit_texts.specs.UnitStops.{greatest_height}
+use Rattle.um_unit_texts.specs.UnitTokens.{unit_token}
+use Rattle.um_unit_texts.specs.UnitMachine.{Have}
+use Rattle.um_unit_texts.specs.UnitFrames.{operand_syntax}
 use Rattle.um_types.specs.NoteMachine.{unit_goes, machine_of_notes}
 use Rattle.um_types.specs.NoteView.{note_focus_state}
 use Rattle.um_types.specs.declared.note_reader.NoteFocus.{NoteFocus}
-use Rattle.um_types.proofs.ForeignTokens.{foreign_refused}
+use Rattle.um_unit_texts.proofs.ForeignTokens.{foreign_refused}
 use Rattle.um_types.proofs.note_reader.NoteReader.take.Goals as goal
 
 pub returns-then-is_foreign : goal.returns-then-is_foreign

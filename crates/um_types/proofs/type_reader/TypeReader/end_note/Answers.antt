@@ -4,7 +4,7 @@ use Rattle.um_vocabulary.specs.declared.vocabulary.Symbol.TheVariants as symbol
 use Rattle.um_tree.specs.RawTree.{note_syntax}
 use Rattle.um_reader.specs.Takes.{Gives}
 use Rattle.um_reader.specs.declared.taken.Taken.{Taken}
-use Rattle.um_types.specs.UnitStops.{greatest_height}
+use Rattle.um_unit_texts.specs.UnitStops.{greatest_height}
 use Rattle.um_types.specs.TypeMachine.{NeedType, HaveType, note_end, owned, type_least, machine_of_types}
 use Rattle.um_types.specs.TypeView.{view_owner, type_state}
 use Rattle.um_types.proofs.TypeLaws.{owned_height}

@@ -1,7 +1,7 @@
 use Rattle.std.proofs.Common.{◌≤◌, refl, sym, subst}
 use Rattle.um_reader.specs.Takes.{Takes}
 use Rattle.um_reader.specs.declared.taken.Taken.TheVariants as taken
-use Rattle.um_types.specs.UnitStops.{greatest_height}
+use Rattle.um_unit_texts.specs.UnitStops.{greatest_height}
 use Rattle.um_types.specs.TypeMachine.{type_least, machine_of_types}
 use Rattle.um_types.specs.TypeView.{operand_type, view_owner, type_focus_state, IsLow}
 use Rattle.um_types.specs.NoteView.{note_state}

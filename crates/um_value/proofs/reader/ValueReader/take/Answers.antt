@@ -4,7 +4,7 @@ use Rattle.std.specs.Prelude.{IfOk}
 use Rattle.um_syntax.specs.declared.token.Token.{Token}
 use Rattle.um_reader.specs.declared.taken.Taken.{Taken}
 use Rattle.um_tree.specs.ProgramTree.{record_tree}
-use Rattle.um_types.specs.UnitStops.{greatest_height}
+use Rattle.um_unit_texts.specs.UnitStops.{greatest_height}
 use Rattle.um_types.specs.NoteView.{note_state}
 use Rattle.um_value.specs.declared.frame.Focus.{Focus}
 use Rattle.um_value.specs.ValueMachine.{ValueState, InNote, own_act, value_finish, value_least}

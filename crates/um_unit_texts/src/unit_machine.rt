@@ -1,0 +1,356 @@
+// Reading a unit text token by token.
+ghost use Rattle.std.specs.Prelude.{◌≡◌, ◌<◌, IfOk, IfSome, IfNone, OnOk, Some, None, option_map, vec_len, pos};
+ghost use Rattle.um_unit_texts.specs.UnitTokens.{unit_token, power_of};
+ghost use Rattle.um_unit_texts.specs.UnitMachine.{Need, sign_after, Have, Raised, Lowered, reduce, juxtapose, begin};
+ghost use Rattle.um_unit_texts.specs.UnitMachine.{raised};
+ghost use Rattle.um_unit_texts.specs.UnitMachine.{lowered, close_after, opens, after, act, finish, atom_of, power_in};
+ghost use Rattle.um_unit_texts.specs.UnitMachine.{is_atom, is_foreign};
+ghost use Rattle.um_unit_texts.specs.UnitFrames.{operand_syntax};
+ghost use Rattle.um_unit_texts.specs.UnitView.{frames_of, state_of, Simulates, Keeps, Ended, Unbracketed, ends_itself};
+
+use crate::unit_frame::{Focus, Frame, Step};
+use crate::unit_frames::Frames;
+use crate::unit_operand::{Operand, Operands};
+use std::alloc::{AllocError, Global};
+use um_frac::Frac;
+use um_syntax::{Kind, Symbol, Token};
+use um_tree::RawUnit;
+
+// The greatest power that a text writes.
+const GREATEST_POWER: i64 = 2147483647;
+
+// Whether the innermost frame needs no token to end.
+fn ends_itself(frames: &Frames) -> bool
+    ensures { result ≡ ends_itself (frames_of frames.now) }
+{
+    match frames.entries.last() {
+        Some(entry) => match &entry.frame {
+            Frame::InBracket(_) => false,
+            _ => true,
+        },
+        None => false,
+    }
+}
+
+// Takes off the innermost frame if it needs no token to end.
+fn pop_ended(frames: &mut Frames) -> Option<Frame>
+    ensures state { Ended (frames_of frames.old) result (frames_of frames.new) }
+    ensures shorter { IfSome result (λ _. vec_len frames.new.entries < vec_len frames.old.entries) }
+{
+    if ends_itself(frames) {
+        frames.pop()
+    } else {
+        None
+    }
+}
+
+// Ends all frames up to the innermost brackets.
+fn ended(alloc: Global, frames: &mut Frames, operand: Operand) -> Result<Operand, AllocError>
+    ensures { IfOk result
+        (λ t. Have (frames_of frames.new) (operand_syntax t) ≡ reduce (frames_of frames.old) (operand_syntax operand)) }
+{
+    let mut operand = operand;
+    while let Some(frame) = pop_ended(frames) {
+        operand = frame.plug(alloc, operand)?;
+    }
+    Ok(operand)
+}
+
+// Whether a unit text begins here.
+fn opens(frames: &Frames) -> bool
+    ensures { result ≡ opens (frames_of frames.now) }
+{
+    match frames.entries.last() {
+        Some(entry) => match &entry.frame {
+            Frame::InBracket(_) => true,
+            _ => false,
+        },
+        None => true,
+    }
+}
+
+// The unit that was read goes into a juxtaposition.
+fn juxtapose(alloc: Global, frames: &mut Frames, operand: Operand) -> Result<(), AllocError>
+    ensures { OnOk result (frames_of frames.new ≡ juxtapose (frames_of frames.old) (operand_syntax operand)) }
+{
+    let earlier = match frames.pop() {
+        Some(Frame::InSide(earlier)) => earlier,
+        Some(other) => {
+            frames.push(other)?;
+            Operands::empty(alloc)
+        }
+        None => Operands::empty(alloc),
+    };
+    frames.push(Frame::InSide(earlier.with(operand)?))
+}
+
+// The power that a number writes.
+fn power_of(value: Frac, digits: bool) -> Option<i32>
+    ensures { option_map pos (power_of value digits) ≡ result }
+{
+    let power = value.num();
+    if digits && 0 <= power && power <= GREATEST_POWER {
+        Some(power as i32)
+    } else {
+        None
+    }
+}
+
+// The atom that a token is, if it is one; not an opening bracket. Its letters are moved into the atom.
+fn atom(alloc: Global, kind: &mut Kind, at: u32) -> Option<Operand>
+    ensures atom { option_map operand_syntax result ≡ atom_of (unit_token kind.old) at }
+    ensures kept { IfNone result (kind.new ≡ kind.old) }
+{
+    match kind {
+        Kind::Name(letters) => Some(Operand::measure(at, letters.take(alloc))),
+        Kind::Var(letters) => Some(Operand::variable(at, letters.take(alloc))),
+        Kind::Number { one, .. } => { if *one { Some(Operand::one(at)) } else { None } }
+        Kind::Word(_) | Kind::Hole | Kind::Sign(_) => None,
+    }
+}
+
+/// The power that a token writes: the value of a number whose text is digits alone, up to 2147483647.
+pub fn written_power(kind: &Kind) -> Option<i32>
+    ensures { option_map pos (power_in (unit_token kind.now)) ≡ result }
+{
+    match kind {
+        Kind::Number { value, digits, .. } => power_of(*value, *digits),
+        _ => None,
+    }
+}
+
+// One token where an atom is wanted.
+fn step_empty(alloc: Global, frames: &mut Frames, token: &mut Token) -> Result<Step, AllocError>
+    ensures state { IfOk result
+        (λ s. Simulates (Need (frames_of frames.old)) frames.new s
+        (begin (frames_of frames.old) (unit_token token.old.kind) token.old.start)) }
+    ensures kept { IfOk result (λ s. Keeps s token.old token.new) }
+{
+    if let Some(atom) = atom(alloc, &mut token.kind, token.start) {
+        return Ok(Step::Goes(Focus::Full(atom)));
+    }
+    match &token.kind {
+        Kind::Sign(Symbol::LeftParen) => {
+            frames.push(Frame::InBracket(token.start))?;
+            Ok(Step::Goes(Focus::Empty))
+        }
+        Kind::Sign(Symbol::Slash) => {
+            if opens(frames) {
+                frames.push(Frame::InInverse(token.start))?;
+                Ok(Step::Goes(Focus::Empty))
+            } else {
+                Ok(Step::Stops(Focus::Empty))
+            }
+        }
+        _ => Ok(Step::Stops(Focus::Empty)),
+    }
+}
+
+// One token after `^`.
+fn step_raised(
+    alloc: Global,
+    frames: &Frames,
+    base: Operand,
+    token: &Token,
+) -> Result<Step, AllocError>
+    ensures { IfOk result
+        (λ s. Simulates (Raised (frames_of frames.now) (operand_syntax base)) frames.now s
+        (raised (frames_of frames.now) (operand_syntax base) (unit_token token.now.kind))) }
+{
+    if let Some(power) = written_power(&token.kind) {
+        return Ok(Step::Goes(Focus::Full(base.power(alloc, power)?)));
+    }
+    match &token.kind {
+        Kind::Sign(Symbol::Minus) => Ok(Step::Goes(Focus::Lowered(base))),
+        _ => Ok(Step::Stops(Focus::Raised(base))),
+    }
+}
+
+// One token after `^` and `-`.
+fn step_lowered(
+    alloc: Global,
+    frames: &Frames,
+    base: Operand,
+    token: &Token,
+) -> Result<Step, AllocError>
+    ensures { IfOk result
+        (λ s. Simulates (Lowered (frames_of frames.now) (operand_syntax base)) frames.now s
+        (lowered (frames_of frames.now) (operand_syntax base) (unit_token token.now.kind))) }
+{
+    match written_power(&token.kind) {
+        Some(power) => Ok(Step::Goes(Focus::Full(base.power(alloc, -power)?))),
+        None => Ok(Step::Stops(Focus::Lowered(base))),
+    }
+}
+
+// The place of the innermost frame, if it is brackets, which are taken off.
+fn pop_bracket(frames: &mut Frames) -> Option<u32>
+    ensures { Unbracketed (frames_of frames.old) result (frames_of frames.new) }
+{
+    match frames.pop() {
+        Some(Frame::InBracket(at)) => Some(at),
+        Some(_) => None,
+        None => None,
+    }
+}
+
+// Brackets close after the unit that was read, if any are open.
+fn close_after(alloc: Global, frames: &mut Frames, operand: Operand) -> Result<Step, AllocError>
+    ensures { IfOk result
+        (λ s. Simulates (Have (frames_of frames.old) (operand_syntax operand)) frames.new s
+        (close_after (reduce (frames_of frames.old) (operand_syntax operand)))) }
+{
+    let inner = ended(alloc, frames, operand)?;
+    match pop_bracket(frames) {
+        Some(at) => Ok(Step::Goes(Focus::Full(inner.bracket(alloc, at)?))),
+        None => Ok(Step::Stops(Focus::Full(inner))),
+    }
+}
+
+// Whether it is an atom.
+fn is_atom(operand: &Operand) -> bool
+    ensures { result ≡ is_atom (operand_syntax operand.now) }
+{
+    match &operand.unit {
+        RawUnit::One(_) | RawUnit::Name(_, _) | RawUnit::Var(_, _) | RawUnit::Bracket(_, _) => true,
+        _ => false,
+    }
+}
+
+// `*` or `/` after the unit that was read.
+fn after_sign(
+    alloc: Global,
+    frames: &mut Frames,
+    operand: Operand,
+    over: bool,
+) -> Result<Step, AllocError>
+    ensures { IfOk result
+        (λ s. Simulates (Have (frames_of frames.old) (operand_syntax operand)) frames.new s
+        (sign_after over (reduce (frames_of frames.old) (operand_syntax operand)))) }
+{
+    let left = ended(alloc, frames, operand)?;
+    frames.push(if over {
+        Frame::InOver(left)
+    } else {
+        Frame::InTimes(left)
+    })?;
+    Ok(Step::Goes(Focus::Empty))
+}
+
+// One token after an atom or a power.
+fn step_full(
+    alloc: Global,
+    frames: &mut Frames,
+    operand: Operand,
+    token: &mut Token,
+) -> Result<Step, AllocError>
+    ensures state { IfOk result
+        (λ s. Simulates (Have (frames_of frames.old) (operand_syntax operand)) frames.new s
+        (after (frames_of frames.old) (operand_syntax operand) (unit_token token.old.kind) token.old.start)) }
+    ensures kept { IfOk result (λ s. Keeps s token.old token.new) }
+{
+    if let Some(atom) = atom(alloc, &mut token.kind, token.start) {
+        juxtapose(alloc, frames, operand)?;
+        return Ok(Step::Goes(Focus::Full(atom)));
+    }
+    match &token.kind {
+        Kind::Sign(Symbol::LeftParen) => {
+            juxtapose(alloc, frames, operand)?;
+            frames.push(Frame::InBracket(token.start))?;
+            Ok(Step::Goes(Focus::Empty))
+        }
+        Kind::Sign(Symbol::RightParen) => close_after(alloc, frames, operand),
+        Kind::Sign(Symbol::Star) => after_sign(alloc, frames, operand, false),
+        Kind::Sign(Symbol::Slash) => after_sign(alloc, frames, operand, true),
+        Kind::Sign(Symbol::Caret) => Ok(if is_atom(&operand) {
+            Step::Goes(Focus::Raised(operand))
+        } else {
+            Step::Stops(Focus::Full(operand))
+        }),
+        _ => Ok(Step::Stops(Focus::Full(operand))),
+    }
+}
+
+/// Whether no unit text contains the token.
+pub fn is_foreign(kind: &Kind) -> bool
+    ensures { result ≡ is_foreign (unit_token kind.now) }
+{
+    match kind {
+        Kind::Name(_) | Kind::Var(_) | Kind::Number { .. } => false,
+        Kind::Sign(Symbol::LeftParen) => false,
+        Kind::Sign(Symbol::RightParen) => false,
+        Kind::Sign(Symbol::Star) => false,
+        Kind::Sign(Symbol::Slash) => false,
+        Kind::Sign(Symbol::Caret) => false,
+        Kind::Sign(Symbol::Minus) => false,
+        Kind::Sign(_) | Kind::Word(_) | Kind::Hole => true,
+    }
+}
+
+/// One token more, which stays as it was if it is refused.
+pub fn step(
+    alloc: Global,
+    frames: &mut Frames,
+    focus: Focus,
+    token: &mut Token,
+) -> Result<Step, AllocError>
+    ensures state { IfOk result
+        (λ s. Simulates (state_of frames.old focus) frames.new s
+        (act (state_of frames.old focus) (unit_token token.old.kind) token.old.start)) }
+    ensures kept { IfOk result (λ s. Keeps s token.old token.new) }
+{
+    match focus {
+        Focus::Empty => step_empty(alloc, frames, token),
+        Focus::Full(operand) => step_full(alloc, frames, operand, token),
+        Focus::Raised(base) => step_raised(alloc, frames, base, token),
+        Focus::Lowered(base) => step_lowered(alloc, frames, base, token),
+    }
+}
+
+fn no_operand(focus: Focus) -> Option<Operand>
+    ensures { result ≡ None }
+{
+    drop(focus);
+    None
+}
+
+fn no_whole(open: Option<Frame>, operand: Operand) -> Option<Operand>
+    ensures { result ≡ None }
+{
+    drop(open);
+    drop(operand);
+    None
+}
+
+// The unit text, if all is read after an atom or a power.
+fn finish_full(
+    alloc: Global,
+    frames: &mut Frames,
+    operand: Operand,
+) -> Result<Option<Operand>, AllocError>
+    ensures { IfOk result
+        (λ o. option_map operand_syntax o ≡ finish (Have (frames_of frames.old) (operand_syntax operand))) }
+{
+    let operand = ended(alloc, frames, operand)?;
+    match frames.pop() {
+        None => Ok(Some(operand)),
+        open => Ok(no_whole(open, operand)),
+    }
+}
+
+/// The unit text of the tokens that were taken, if they are one. Most are one name, and no frame is open.
+pub fn finish(
+    alloc: Global,
+    frames: &mut Frames,
+    focus: Focus,
+) -> Result<Option<Operand>, AllocError>
+    ensures { IfOk result (λ o. option_map operand_syntax o ≡ finish (state_of frames.old focus)) }
+{
+    match focus {
+        Focus::Full(operand) => match frames.entries.last() {
+            None => Ok(Some(operand)),
+            Some(_) => finish_full(alloc, frames, operand),
+        },
+        other => Ok(no_operand(other)),
+    }
+}

@@ -1,0 +1,157 @@
+// A unit text that is read one token at a time, so that readers of longer texts can hold it.
+ghost use Rattle.std.specs.Prelude.{◌≡◌, option_map};
+ghost use Rattle.um_tree.specs.RawTree.{unit_syntax};
+ghost use Rattle.um_unit_texts.specs.UnitFrames.{operand_syntax};
+
+use crate::unit_frame::{Focus, Step};
+use crate::unit_frames::Frames;
+use crate::unit_least::is_low;
+use crate::unit_machine::{finish, is_foreign, step};
+use crate::unit_operand::Operand;
+use std::alloc::{AllocError, Global};
+use std::mem;
+use um_reader::{Reader, Taken};
+use um_syntax::Token;
+use um_tree::RawUnit;
+
+/// A unit text that has begun: what is open around the next part, and what stands inside it.
+#[derive(Drop)]
+pub struct UnitReader {
+    frames: Frames,
+    focus: Focus,
+}
+
+fn unit_of(operand: Option<Operand>) -> Option<RawUnit>
+    ensures { option_map unit_syntax result ≡ option_map operand_syntax operand }
+{
+    match operand {
+        Some(operand) => Some(operand.unit),
+        None => None,
+    }
+}
+
+impl UnitReader {
+    ghost use Rattle.std.specs.Prelude.{[], IfOk, option_map};
+    ghost use Rattle.um_tree.specs.RawTree.{unit_syntax};
+    ghost use Rattle.um_reader.specs.Takes.{Takes};
+    ghost use Rattle.um_unit_texts.specs.UnitStops.{greatest_height};
+    ghost use Rattle.um_unit_texts.specs.UnitMachine.{Have, finish};
+    ghost use Rattle.um_unit_texts.specs.UnitLeast.{machine_of_units};
+    ghost use Rattle.um_unit_texts.specs.UnitView.{unit_state};
+
+    /// An atom was read.
+    pub fn after_atom(alloc: Global, atom: Operand) -> UnitReader
+        ensures { unit_state result ≡ Have [] (operand_syntax atom) }
+    {
+        UnitReader {
+            frames: Frames::new(alloc),
+            focus: Focus::Full(atom),
+        }
+    }
+
+    /// The unit text of the tokens that were taken, if they are one, out of the reader.
+    pub fn take_whole(&mut self, alloc: Global) -> Result<Option<RawUnit>, AllocError>
+        ensures found { IfOk result (λ o. option_map unit_syntax o ≡ finish (unit_state self.old)) }
+    {
+        let focus = mem::replace(&mut self.focus, Focus::Empty);
+        Ok(unit_of(finish(alloc, &mut self.frames, focus)?))
+    }
+
+    // From now on this stands inside the frames. If nothing did, there is nothing to let go.
+    #[inline(always)]
+    fn put(&mut self, focus: Focus)
+        ensures focus { self.new.focus ≡ focus }
+        ensures frames { self.new.frames ≡ self.old.frames }
+    {
+        match &self.focus {
+            Focus::Empty => mem::forget(mem::replace(&mut self.focus, focus)),
+            Focus::Full(_) | Focus::Raised(_) | Focus::Lowered(_) => {
+                drop(mem::replace(&mut self.focus, focus));
+            }
+        }
+    }
+
+    // One token more.
+    #[inline(never)]
+    fn take_step(&mut self, alloc: Global, token: &mut Token) -> Result<Taken, AllocError>
+        ensures taken { IfOk result (λ t.
+            Takes machine_of_units greatest_height (unit_state self.old) token.old t (unit_state self.new)) }
+        ensures kept { IfOk result (λ t. t ≡ Taken.Stops → token.new ≡ token.old) }
+    {
+        let focus = mem::replace(&mut self.focus, Focus::Empty);
+        match step(alloc, &mut self.frames, focus, token)? {
+            Step::Goes(focus) => {
+                self.put(focus);
+                Ok(if is_low(&self.frames, &self.focus) {
+                    Taken::Goes
+                } else {
+                    Taken::High
+                })
+            }
+            Step::Stops(focus) => {
+                self.put(focus);
+                Ok(Taken::Stops)
+            }
+        }
+    }
+}
+
+impl Reader for UnitReader {
+    ghost use Rattle.std.specs.Prelude.{◌≡◌, IfOk, option_map};
+    ghost use Rattle.std.proofs.Common.{arith};
+    ghost use Rattle.um_tree.specs.RawTree.{UnitSyntax, unit_syntax};
+    ghost use Rattle.um_reader.specs.Takes.{Takes};
+    ghost use Rattle.um_unit_texts.specs.UnitStops.{greatest_height};
+    ghost use Rattle.um_unit_texts.specs.UnitMachine.{State, finish};
+    ghost use Rattle.um_unit_texts.specs.UnitLeast.{machine_of_units};
+    ghost use Rattle.um_unit_texts.specs.UnitView.{unit_state};
+
+    type Token = Token;
+
+    type Tree = RawUnit;
+
+    ghost States = { State };
+
+    ghost Syntax = { UnitSyntax };
+
+    ghost machine = { machine_of_units };
+
+    ghost limit = { greatest_height };
+
+    ghost state_in = { unit_state };
+
+    ghost view = { unit_syntax };
+
+    ghost starts = { λ e. Prim.cc };
+
+    ghost starts_low = { Prim.omega arith };
+
+    fn new(alloc: Global) -> UnitReader {
+        UnitReader {
+            frames: Frames::new(alloc),
+            focus: Focus::Empty,
+        }
+    }
+
+    fn copy(alloc: Global, token: &Token) -> Result<Token, AllocError> {
+        token.copy(alloc)
+    }
+
+    fn take(&mut self, alloc: Global, token: &mut Token) -> Result<Taken, AllocError>
+        ensures taken { IfOk result
+            (λ t. Takes machine_of_units greatest_height (unit_state self.old) token.old t (unit_state self.new)) }
+        ensures kept { IfOk result (λ t. t ≡ Taken.Stops → token.new ≡ token.old) }
+    {
+        if is_foreign(&token.kind) {
+            return Ok(Taken::Stops);
+        }
+        self.take_step(alloc, token)
+    }
+
+    fn finish(self, alloc: Global) -> Result<Option<RawUnit>, AllocError>
+        ensures found { IfOk result (λ o. option_map unit_syntax o ≡ finish (unit_state self)) }
+    {
+        let UnitReader { mut frames, focus } = self;
+        Ok(unit_of(finish(alloc, &mut frames, focus)?))
+    }
+}
