@@ -10,13 +10,13 @@ use Rattle.um_slots.specs.Callees.{callee, head_holes}
 use Rattle.um_slots.specs.Keys.{hole, name}
 use Rattle.um_slots.specs.Slots.{function_slots, slot_unit}
 use Rattle.um_slots.specs.Noted.{noted_unit, noted_type, noted_types, noted_result}
-use Rattle.um_rows.specs.Steps.{Step, type_at, types_at, rows_of}
+use Rattle.um_equal_types.specs.Steps.{Step, type_at, types_at, rows_of}
 use Rattle.um_rows.specs.Rules.{Derived, AllDerived, item, call_rule, negate_rule, not_rule, pown_rule, truths_rule, arith_rule, compare_rule, if_rule, split_rule, list_rule, cons_rule, record_rule, field_rule}
 use Rattle.um_rows.specs.Derivation.{first_units, offered, derive, derive_all}
 use Rattle.um_rows.specs.Equations.{result_rows, own_signature, head_steps, slot_equations}
 use Rattle.um_rows.specs.RightShapes.{HaveRightShapes}
-use Rattle.um_rows.proofs.HeldSteps.{Holds-solves, Solves-holds}
-use Rattle.um_rows.proofs.TypesAgainst.{same_from_rows, rows-same}
+use Rattle.um_equal_types.proofs.HeldSteps.{Holds-solves, Solves-holds}
+use Rattle.um_equal_types.proofs.TypesAgainst.{same_from_rows, rows-same}
 use Rattle.um_agree.specs.declared.rule.Rule.TheVariants as asks
 use Rattle.um_agree.specs.Agreements.{Agreement, agreement_steps}
 use Rattle.um_agree.specs.NodeAgreements.{agree, arith_agreements, call_agreements, list_agreements, cons_agreements, record_agreements}

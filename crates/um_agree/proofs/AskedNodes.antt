@@ -10,8 +10,8 @@ use Rattle.um_tree.specs.ProgramTree.{RecordTree, Signature}
 use Rattle.um_tree.specs.Typing.{put, unit_at, field_types}
 use Rattle.um_slots.specs.Holes.{Callee, callee_holes, record_holes, expr_holes}
 use Rattle.um_slots.specs.Noted.{noted_unit, noted_type}
-use Rattle.um_rows.specs.Steps.{Step, type_at}
-use Rattle.um_rows.specs.Against.{against, types_against}
+use Rattle.um_equal_types.specs.Steps.{Step, type_at}
+use Rattle.um_equal_types.specs.Against.{against, types_against}
 use Rattle.um_rows.specs.NodeTypes.{TypedNode, nodes_of}
 use Rattle.um_rows.specs.Rules.{Derived, AllDerived, after, formed, item, call_rule, negate_rule, not_rule, pown_rule, truths_rule, arith_rule, compare_rule, if_rule, split_rule, list_rule, cons_rule, record_rule, field_rule}
 use Rattle.um_rows.specs.Derivation.{first_units, offered, derive, derive_all}

@@ -9,8 +9,8 @@ use Rattle.um_slots.specs.Callees.{callee, head_holes}
 use Rattle.um_slots.specs.Keys.{hole, name}
 use Rattle.um_slots.specs.Slots.{function_slots, slot_unit}
 use Rattle.um_slots.specs.Noted.{noted_types}
-use Rattle.um_rows.specs.declared.row.Row.{Row}
-use Rattle.um_rows.specs.Steps.{rows_of}
+use Rattle.um_equal_types.specs.declared.row.Row.{Row}
+use Rattle.um_equal_types.specs.Steps.{rows_of}
 use Rattle.um_rows.specs.NodeTypes.{TypedNode, function_nodes}
 use Rattle.um_rows.specs.Derivation.{derive}
 use Rattle.um_rows.specs.Equations.{result_rows, own_signature, head_steps, slot_equations}

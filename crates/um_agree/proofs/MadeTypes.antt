@@ -7,8 +7,8 @@ use Rattle.um_units.specs.Terms.{indicator}
 use Rattle.um_units.proofs.Equality.{same_unit}
 use Rattle.um_units.proofs.Group.{weight-mul, weight-inv}
 use Rattle.um_tree.specs.TypeTree.{TypeTree, bool_type, num_type, list_type, record_type}
-use Rattle.um_rows.specs.Steps.{row_units}
-use Rattle.um_rows.specs.Against.{never, units_against, against}
+use Rattle.um_equal_types.specs.Steps.{row_units}
+use Rattle.um_equal_types.specs.Against.{never, units_against, against}
 use Rattle.um_rows.specs.RightShapes.{HaveRightShapes}
 use Rattle.um_agree.specs.declared.agreement.By.TheVariants.{Times, Over}
 use Rattle.um_agree.specs.Made.{units_in, units_by, type_by}

@@ -6,10 +6,10 @@ use Rattle.std.proofs.lemmas.Grind.{flat_map-append}
 use Rattle.std.proofs.lemmas.List.{append-nil, map-append, length-append, length-map, take_more, take_all, drop_more, drop_at, take-append-drop, get_or-map}
 use Rattle.um_units.specs.PowerMap.{PowerMap}
 use Rattle.um_tree.specs.TypeTree.{TypeTree, bool_type}
-use Rattle.um_rows.specs.declared.row.Row.{Row}
+use Rattle.um_equal_types.specs.declared.row.Row.{Row}
 use Rattle.um_rows.specs.NodeTypes.{TypedNode}
-use Rattle.um_rows.specs.Steps.{units_of, row_units}
-use Rattle.um_rows.specs.Against.{against}
+use Rattle.um_equal_types.specs.Steps.{units_of, row_units}
+use Rattle.um_equal_types.specs.Against.{against}
 use Rattle.um_rows.specs.RightShapes.{HaveRightShapes}
 use Rattle.um_agree.specs.declared.rule.Rule.{Rule}
 use Rattle.um_agree.specs.declared.rule.Rule.TheVariants as asks

@@ -14,12 +14,12 @@ use Rattle.um_tree.specs.declared.expression.Arith.TheVariants.{Add, Sub, Mul, D
 use Rattle.um_tree.specs.TypeTree.{TypeTree, bool_type, num_type, list_type, record_type}
 use Rattle.um_tree.specs.ProgramTree.{RecordTree, Signature}
 use Rattle.um_tree.specs.Typing.{put, unit_at, field_types}
-use Rattle.um_rows.specs.declared.row.Row.{Row}
-use Rattle.um_rows.specs.Steps.{Step, row_at, wrong_shape_at, type_at, rows_of}
-use Rattle.um_rows.specs.Against.{never, against, types_against, against_each}
+use Rattle.um_equal_types.specs.declared.row.Row.{Row}
+use Rattle.um_equal_types.specs.Steps.{Step, row_at, wrong_shape_at, type_at, rows_of}
+use Rattle.um_equal_types.specs.Against.{never, against, types_against, against_each}
 use Rattle.um_rows.specs.Rules.{formed, asks_bool, asks_list, number_rule, local_rule, call_rule, negate_rule, not_rule, pown_rule, truths_rule, arith_rule, compare_rule, if_rule, split_rule, nil_rule, list_rule, cons_rule, record_rule, declared_rule, found_rule, field_rule}
 use Rattle.um_rows.specs.RightShapes.{HaveRightShapes}
-use Rattle.um_rows.proofs.PushLaws.{rows_of-append}
+use Rattle.um_equal_types.proofs.PushLaws.{rows_of-append}
 use Rattle.um_agree.specs.declared.rule.Rule.{Rule}
 use Rattle.um_agree.specs.declared.rule.Rule.TheVariants as asks
 use Rattle.um_agree.specs.Agreements.{Agreement, agreement_rows}

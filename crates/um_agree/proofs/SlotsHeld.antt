@@ -11,9 +11,9 @@ use Rattle.um_tree.specs.Scheme.{unit_variables, type_variables}
 use Rattle.um_tree.specs.Typing.{typings_below}
 use Rattle.um_elim.proofs.GrowingOrder.{All-from_below}
 use Rattle.um_slots.specs.Slots.{slot_count}
-use Rattle.um_rows.specs.declared.row.Row.{Row}
+use Rattle.um_equal_types.specs.declared.row.Row.{Row}
 use Rattle.um_rows.specs.NodeTypes.{TypedNode, function_nodes}
-use Rattle.um_rows.specs.Steps.{rows_of, units_of}
+use Rattle.um_equal_types.specs.Steps.{rows_of, units_of}
 use Rattle.um_rows.specs.Equations.{slot_equations}
 use Rattle.um_rows.proofs.NodesBelow.{node_types_below}
 use Rattle.um_rows.proofs.Solved.{all_fit, rows_hold_slots}

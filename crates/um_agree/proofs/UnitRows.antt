@@ -8,8 +8,8 @@ use Rattle.um_units.specs.declared.UnitStop.{UnitStop}
 use Rattle.um_units.specs.declared.UnitStop.TheVariants as stop
 use Rattle.um_units.specs.PowerMap.{PowerMap}
 use Rattle.um_units.specs.Range.{fits, IsStopUnless}
-use Rattle.um_rows.specs.declared.row.Row.{Row}
-use Rattle.um_rows.specs.Steps.{units_of}
+use Rattle.um_equal_types.specs.declared.row.Row.{Row}
+use Rattle.um_equal_types.specs.Steps.{units_of}
 use Rattle.um_agree.specs.declared.agreement.By.{By}
 use Rattle.um_agree.specs.Made.{unit_by, units_by}
 

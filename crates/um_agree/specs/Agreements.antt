@@ -2,9 +2,9 @@
 -- Source: Kennedy (1996): two types unify if their units do. What an agreement is called is this project's own.
 use Rattle.std.specs.Prelude.{ℕ, List}
 use Rattle.um_tree.specs.TypeTree.{TypeTree}
-use Rattle.um_rows.specs.declared.row.Row.{Row}
-use Rattle.um_rows.specs.Steps.{Step, rows_of}
-use Rattle.um_rows.specs.Against.{against}
+use Rattle.um_equal_types.specs.declared.row.Row.{Row}
+use Rattle.um_equal_types.specs.Steps.{Step, rows_of}
+use Rattle.um_equal_types.specs.Against.{against}
 use Rattle.um_agree.specs.declared.rule.Rule.{Rule}
 
 -- who asks for it, and two types over slots, as they are formed at the node at this place

@@ -7,7 +7,7 @@ use Rattle.um_tree.specs.ProgramTree.{RecordTree, FunctionTree, ProgramTree, Sch
 use Rattle.um_tree.specs.Scheme.{type_variables}
 use Rattle.um_slots.specs.Slots.{slot_count}
 use Rattle.um_tree.specs.Typing.{put}
-use Rattle.um_rows.specs.Steps.{rows_of, units_of}
+use Rattle.um_equal_types.specs.Steps.{rows_of, units_of}
 use Rattle.um_rows.specs.Equations.{slot_equations}
 use Rattle.um_rows.specs.RightShapes.{HaveRightShapes}
 use Rattle.um_rows.specs.Solutions.{HaveSchemes}

@@ -5,7 +5,7 @@ use Rattle.std.specs.Prelude.{◌≡◌, ℕ, Bool, true, false, if◌then◌els
 use Rattle.std.specs.List.{flat_map}
 use Rattle.um_units.specs.PowerMap.{PowerMap, mul, inv}
 use Rattle.um_tree.specs.TypeTree.{TypeTree, bool_type, num_type, list_type, record_type}
-use Rattle.um_rows.specs.declared.row.Row.{Row}
+use Rattle.um_equal_types.specs.declared.row.Row.{Row}
 use Rattle.um_rows.specs.NodeTypes.{TypedNode}
 use Rattle.um_rows.specs.RightShapes.{HaveRightShapes}
 use Rattle.um_agree.specs.declared.rule.Rule.{Rule}

@@ -5,7 +5,7 @@ ghost use Rattle.std.specs.List.{list_all};
 ghost use Rattle.um_units.specs.Range.{fits, RangeUnless};
 ghost use Rattle.um_tree.specs.TypeTree.{type_tree};
 ghost use Rattle.um_elim.specs.Application.{type_fits};
-ghost use Rattle.um_rows.specs.Steps.{units_of};
+ghost use Rattle.um_equal_types.specs.Steps.{units_of};
 ghost use Rattle.um_agree.specs.Made.{units_in, type_by, units_by, unit_by, is_result, is_head, inner, known_type};
 ghost use Rattle.um_agree.specs.Made.{by_of, placed_of, made_of};
 ghost use Rattle.um_agree.specs.Answers.{agreement_tree};

@@ -6,7 +6,7 @@ ghost use Rattle.um_units.specs.Range.{RangeUnless};
 ghost use Rattle.um_tree.specs.TypeTree.{type_tree};
 ghost use Rattle.um_tree.specs.ProgramTree.{FunctionTree, program_tree, scheme_tree, result_tree};
 ghost use Rattle.um_elim.specs.Application.{type_fits};
-ghost use Rattle.um_rows.specs.Steps.{units_of};
+ghost use Rattle.um_equal_types.specs.Steps.{units_of};
 ghost use Rattle.um_rows.specs.NodeTypes.{typed_nodes};
 ghost use Rattle.um_rows.specs.Answers.{AreRowsOf, RowsStopFor, HaveVariablesBelow};
 ghost use Rattle.um_rows.specs.Equations.{slot_equations};

@@ -17,7 +17,7 @@ use Rattle.um_rows.specs.NodeTypes.{TypedNode, derived_nodes, derived_body, func
 use Rattle.um_rows.specs.Derivation.{derive, first_units}
 use Rattle.um_rows.specs.Equations.{result_rows, own_signature, head_steps, equations, slot_equations}
 use Rattle.um_rows.specs.Solutions.{slot_signature, IsSolution, IsSolved}
-use Rattle.um_rows.proofs.HeldSteps.{Holds, Holds-front, Holds-back, Holds-solves, Solves-holds}
+use Rattle.um_equal_types.proofs.HeldSteps.{Holds, Holds-front, Holds-back, Holds-solves, Solves-holds}
 use Rattle.um_rows.proofs.PutLiterals.{put_literals, same_literals}
 use Rattle.um_rows.proofs.Used.{then_units, Agrees, agrees_first, agrees_second, notes_used, result_used, used}
 use Rattle.um_rows.proofs.Variables.{TypesBelow, signature_put_alike_below, put_alike_below, Holds_alike_below}

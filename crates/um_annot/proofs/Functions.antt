@@ -7,10 +7,10 @@ use Rattle.um_tree.specs.Formed.{IsFormed}
 use Rattle.um_tree.specs.Scheme.{signature_types, variables}
 use Rattle.um_elim.specs.Solution.{rigid_units}
 use Rattle.um_slots.specs.Slots.{slot_count}
-use Rattle.um_rows.specs.declared.row.Row.{Row}
-use Rattle.um_rows.specs.declared.row.Rows.{Rows}
-use Rattle.um_rows.specs.declared.row.RowStop.{RowStop}
-use Rattle.um_rows.specs.declared.row.RowStop.TheVariants as row_stop
+use Rattle.um_equal_types.specs.declared.row.Row.{Row}
+use Rattle.um_equal_types.specs.declared.row.Rows.{Rows}
+use Rattle.um_equal_types.specs.declared.row.RowStop.{RowStop}
+use Rattle.um_equal_types.specs.declared.row.RowStop.TheVariants as row_stop
 use Rattle.um_rows.specs.Answers.{AreEquations, StopsFor, HaveVariablesBelow, rows_signature}
 use Rattle.um_rows.specs.FirstUnsolvable.{solve}
 use Rattle.um_rows.specs.Judgement.{has_scheme, by_rows}

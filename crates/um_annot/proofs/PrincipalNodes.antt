@@ -19,8 +19,8 @@ use Rattle.um_elim.specs.Solution.{rigid_units, parameter_rows}
 use Rattle.um_elim.proofs.Cases.{on_test}
 use Rattle.um_elim.proofs.NumberedTypes.{same_instances}
 use Rattle.um_elim.proofs.RenamedUnits.{put-put, puts-put}
-use Rattle.um_rows.specs.declared.row.Row.{Row}
-use Rattle.um_rows.specs.Steps.{rows_of, units_of, first_past as first_step_past}
+use Rattle.um_equal_types.specs.declared.row.Row.{Row}
+use Rattle.um_equal_types.specs.Steps.{rows_of, units_of, first_past as first_step_past}
 use Rattle.um_slots.specs.Slots.{slot_count}
 use Rattle.um_rows.specs.Equations.{slot_equations}
 use Rattle.um_rows.specs.Solutions.{slot_signature, IsSolution, IsRigid, HaveSchemes}

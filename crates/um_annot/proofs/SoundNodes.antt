@@ -8,11 +8,11 @@ use Rattle.um_tree.specs.ProgramTree.{RecordTree, Signature}
 use Rattle.um_tree.specs.Typing.{put, put_signature, Matches, Typed, AllTyped}
 use Rattle.um_slots.specs.Holes.{Callee, callee_holes, record_holes, expr_holes}
 use Rattle.um_slots.specs.Noted.{noted_unit, noted_type}
-use Rattle.um_rows.specs.Steps.{Step}
+use Rattle.um_equal_types.specs.Steps.{Step}
 use Rattle.um_rows.specs.NodeTypes.{TypedNode, nodes_of, derived_nodes}
 use Rattle.um_rows.specs.Rules.{Derived, AllDerived, after, formed, item, number_rule, local_rule, call_rule, negate_rule, not_rule, pown_rule, truths_rule, arith_rule, compare_rule, if_rule, split_rule, nil_rule, list_rule, cons_rule, record_rule, field_rule}
 use Rattle.um_rows.specs.Derivation.{first_units, offered, derive, derive_all}
-use Rattle.um_rows.proofs.HeldSteps.{Holds, Holds-front, Holds-back}
+use Rattle.um_equal_types.proofs.HeldSteps.{Holds, Holds-front, Holds-back}
 use Rattle.um_rows.proofs.PutTypes.{length-first_units}
 use Rattle.um_rows.proofs.PutLiterals.{put_literals, all_put_literals}
 use Rattle.um_rows.proofs.SoundRules.{negate_sound, not_sound, pown_sound, truths_sound, arith_sound, compare_sound, if_sound, split_sound, nil_sound, list_sound, cons_sound, record_sound, field_sound}

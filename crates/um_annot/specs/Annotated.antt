@@ -12,7 +12,7 @@ use Rattle.um_elim.specs.Application.{type_fits}
 use Rattle.um_elim.specs.Numbering.{variable_order, by_place}
 use Rattle.um_elim.specs.Solution.{rigid_units}
 use Rattle.um_slots.specs.Slots.{slot_count}
-use Rattle.um_rows.specs.Steps.{rows_of}
+use Rattle.um_equal_types.specs.Steps.{rows_of}
 use Rattle.um_rows.specs.Equations.{slot_equations}
 use Rattle.um_rows.specs.Solutions.{slot_signature}
 use Rattle.um_rows.specs.FirstUnsolvable.{Solving, solved, unsolved, out_of_range, solve}

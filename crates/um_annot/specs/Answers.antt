@@ -5,8 +5,8 @@ use Rattle.um_units.specs.PowerMap.{PowerMap, nth}
 use Rattle.um_tree.specs.TypeTree.{TypeTree}
 use Rattle.um_tree.specs.Typing.{put}
 use Rattle.um_rows.specs.declared.nodes.NodeTypes.{NodeTypes}
-use Rattle.um_rows.specs.declared.row.RowStop.{RowStop}
-use Rattle.um_rows.specs.declared.row.RowStop.TheVariants as row_stop
+use Rattle.um_equal_types.specs.declared.row.RowStop.{RowStop}
+use Rattle.um_equal_types.specs.declared.row.RowStop.TheVariants as row_stop
 use Rattle.um_rows.specs.NodeTypes.{TypedNode, typed_nodes}
 use Rattle.um_annot.specs.declared.stop.AnnotStop.{AnnotStop}
 use Rattle.um_annot.specs.declared.stop.AnnotStop.TheVariants as stop

@@ -10,7 +10,7 @@ ghost use Rattle.um_tree.specs.Typing.{put};
 ghost use Rattle.um_tree.specs.Scheme.{signature_types, variables};
 ghost use Rattle.um_elim.specs.Numbering.{renumbered};
 ghost use Rattle.um_elim.specs.Solution.{rigid_units};
-ghost use Rattle.um_rows.specs.declared.row.Row.{Row};
+ghost use Rattle.um_equal_types.specs.declared.row.Row.{Row};
 ghost use Rattle.um_rows.specs.Answers.{rows_signature};
 ghost use Rattle.um_rows.specs.FirstUnsolvable.{solve};
 ghost use Rattle.um_rows.specs.Judgement.{has_scheme, by_rows};

@@ -23,9 +23,9 @@ use Rattle.um_slots.specs.Callees.{known_function, may_recur, callee, head_holes
 use Rattle.um_slots.specs.Keys.{Key, hole, name, text_keys}
 use Rattle.um_slots.specs.Slots.{slot, slot_unit, function_slots, slot_count}
 use Rattle.um_slots.proofs.ParameterSlots.{parameter_slot, parameters_have_slots}
-use Rattle.um_rows.specs.declared.row.Row.{Row}
-use Rattle.um_rows.specs.Steps.{types_at, rows_of, units_of}
-use Rattle.um_rows.specs.Against.{against}
+use Rattle.um_equal_types.specs.declared.row.Row.{Row}
+use Rattle.um_equal_types.specs.Steps.{types_at, rows_of, units_of}
+use Rattle.um_equal_types.specs.Against.{against}
 use Rattle.um_rows.specs.Derivation.{first_units, derive}
 use Rattle.um_rows.specs.Equations.{result_rows, own_signature, head_steps, equations, slot_equations}
 use Rattle.um_rows.specs.Solutions.{HaveSchemes}

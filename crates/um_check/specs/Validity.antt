@@ -10,8 +10,8 @@ use Rattle.um_wide.specs.Room.{IsNarrow}
 use Rattle.um_tree.specs.ProgramTree.{Signature, SchemeTree}
 use Rattle.um_tree.specs.Typing.{put_signature}
 use Rattle.um_tree.specs.Scheme.{variables, signature_types, IsInstance}
-use Rattle.um_rows.specs.declared.row.Rows.{Rows}
-use Rattle.um_rows.specs.Steps.{units_of}
+use Rattle.um_equal_types.specs.declared.row.Rows.{Rows}
+use Rattle.um_equal_types.specs.Steps.{units_of}
 use Rattle.um_rows.specs.Solutions.{IsRigid}
 use Rattle.um_rows.specs.Answers.{rows_signature, IsGivenBy}
 use Rattle.um_check.specs.declared.certificate.Part.{Part}

@@ -5,7 +5,7 @@ ghost use Rattle.um_units.specs.PowerMap.{replace, nth};
 ghost use Rattle.um_units.specs.Solutions.{Solves};
 ghost use Rattle.um_tree.specs.TypeTree.{type_tree};
 ghost use Rattle.um_tree.specs.Typing.{put};
-ghost use Rattle.um_rows.specs.Steps.{units_of};
+ghost use Rattle.um_equal_types.specs.Steps.{units_of};
 ghost use Rattle.um_check.specs.Tests.{Becomes};
 
 use std::alloc::{AllocError, Global};

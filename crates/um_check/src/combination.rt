@@ -2,7 +2,7 @@
 
 ghost use Rattle.std.specs.Prelude.{◌≡◌, ◌↔◌, ◌*◌, ◌≤◌, IfOk, IsTrue, length};
 ghost use Rattle.um_wide.specs.Room.{IsWithin};
-ghost use Rattle.um_rows.specs.Steps.{units_of};
+ghost use Rattle.um_equal_types.specs.Steps.{units_of};
 ghost use Rattle.um_check.specs.Combination.{combined, NamesRowsBelow};
 
 use crate::Part;

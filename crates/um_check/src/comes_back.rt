@@ -4,7 +4,7 @@ ghost use Rattle.std.specs.Prelude.{◌≡◌, ◌↔◌, ◌^◌, ◌+◌, ◌<
 ghost use Rattle.um_units.specs.declared.Atom.TheVariants.{Var};
 ghost use Rattle.um_units.specs.PowerMap.{mul, inv, atom, replace, nth};
 ghost use Rattle.um_wide.specs.Room.{IsWithin};
-ghost use Rattle.um_rows.specs.Steps.{units_of};
+ghost use Rattle.um_equal_types.specs.Steps.{units_of};
 ghost use Rattle.um_check.specs.Combination.{NamesRowsBelow};
 ghost use Rattle.um_check.specs.Tests.{SlotComesBack, AllComeBack};
 

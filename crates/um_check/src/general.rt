@@ -4,7 +4,7 @@ ghost use Rattle.std.specs.Prelude.{◌≡◌, ◌↔◌, IfOk, IsTrue, pos};
 ghost use Rattle.um_units.specs.declared.Atom.TheVariants.{Base};
 ghost use Rattle.um_units.specs.PowerMap.{atom};
 ghost use Rattle.um_rows.specs.Solutions.{IsRigid};
-ghost use Rattle.um_rows.specs.Steps.{units_of};
+ghost use Rattle.um_equal_types.specs.Steps.{units_of};
 ghost use Rattle.um_check.specs.Validity.{ShowsGeneral};
 
 use crate::becomes::solves;

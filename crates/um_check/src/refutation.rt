@@ -6,7 +6,7 @@ ghost use Rattle.um_units.specs.PowerMap.{replace};
 ghost use Rattle.um_wide.specs.Room.{IsWithin};
 ghost use Rattle.um_wide.specs.WideTerms.{as_terms};
 ghost use Rattle.um_elim.specs.Solution.{rigid_unit};
-ghost use Rattle.um_rows.specs.Steps.{units_of};
+ghost use Rattle.um_equal_types.specs.Steps.{units_of};
 ghost use Rattle.um_check.specs.Refutation.{IsApart, IsValidNo, HasNone, fixed_slots};
 ghost use Rattle.um_check.specs.Tests.{is_free, divides, total, rigid_power, slots_divided, is_left};
 

@@ -5,7 +5,7 @@ ghost use Rattle.um_units.specs.PowerMap.{nth};
 ghost use Rattle.um_tree.specs.ProgramTree.{scheme_tree};
 ghost use Rattle.um_tree.specs.Typing.{put_signature};
 ghost use Rattle.um_rows.specs.Answers.{rows_signature};
-ghost use Rattle.um_rows.specs.Steps.{units_of};
+ghost use Rattle.um_equal_types.specs.Steps.{units_of};
 ghost use Rattle.um_check.specs.Tests.{IsSized};
 ghost use Rattle.um_check.specs.Validity.{IsValidYes, HoldSlots, IsExactScheme};
 

@@ -4,8 +4,8 @@ use Rattle.std.proofs.lemmas.List.{append_assoc, length-append, length-map, map-
 use Rattle.um_units.specs.PowerMap.{PowerMap, nth}
 use Rattle.um_units.specs.Solutions.{IsSolvable}
 use Rattle.um_units.proofs.Solutions.{Solves-back}
-use Rattle.um_rows.specs.declared.row.Row.{Row}
-use Rattle.um_rows.specs.Steps.{units_of}
+use Rattle.um_equal_types.specs.declared.row.Row.{Row}
+use Rattle.um_equal_types.specs.Steps.{units_of}
 use Rattle.um_rows.specs.FirstUnsolvable.{IsFirstUnsolvable, rows_up_to}
 use Rattle.um_core.specs.Laws.{EndsUnsolvable, FirstUnsolvableEnds, FirstUnsolvableEndsAlone}
 

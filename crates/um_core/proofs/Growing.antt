@@ -5,8 +5,8 @@ use Rattle.std.proofs.lemmas.List.{append-nil, append_assoc, length-map, length-
 use Rattle.std.proofs.lemmas.List.Elements.{All-nil, All-cons, All-push}
 use Rattle.um_units.specs.PowerMap.{PowerMap}
 use Rattle.um_elim.specs.Solution.{parameter_rows}
-use Rattle.um_rows.specs.declared.row.Row.{Row}
-use Rattle.um_rows.specs.Steps.{units_of}
+use Rattle.um_equal_types.specs.declared.row.Row.{Row}
+use Rattle.um_equal_types.specs.Steps.{units_of}
 use Rattle.um_core.specs.declared.search.Next.{Next}
 use Rattle.um_core.specs.declared.search.Next.TheVariants.{Unsolvable, Row as row_of}
 use Rattle.um_core.specs.Core.{IsNextRow, IsGrown, IsBegun, IsCore}

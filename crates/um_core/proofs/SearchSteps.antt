@@ -12,8 +12,8 @@ use Rattle.um_elim.specs.Instances.{IsMostGeneral, IsRight, SolvesExactly}
 use Rattle.um_elim.specs.Solution.{rigid_units, parameter_rows}
 use Rattle.um_elim.proofs.Rows.{exactly-more, unsolvable-more, length-solved}
 use Rattle.um_elim.proofs.Slots.{length-rigid}
-use Rattle.um_rows.specs.declared.row.Row.{Row}
-use Rattle.um_rows.specs.Steps.{units_of}
+use Rattle.um_equal_types.specs.declared.row.Row.{Row}
+use Rattle.um_equal_types.specs.Steps.{units_of}
 use Rattle.um_core.specs.Core.{picked, IsSolvableList, IsNextRow}
 use Rattle.um_core.specs.Search.{AreSolved, outcome}
 

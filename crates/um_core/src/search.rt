@@ -3,8 +3,8 @@ ghost use Rattle.std.specs.Prelude.{◌≡◌, ◌<◌, ◌≤◌, ◌+◌, ◌^
 ghost use Rattle.um_units.specs.Variables.{VariablesBelow};
 ghost use Rattle.um_elim.specs.Instances.{IsRight};
 ghost use Rattle.um_elim.specs.Solution.{parameter_rows};
-ghost use Rattle.um_rows.specs.declared.row.Row.{Row};
-ghost use Rattle.um_rows.specs.Steps.{units_of};
+ghost use Rattle.um_equal_types.specs.declared.row.Row.{Row};
+ghost use Rattle.um_equal_types.specs.Steps.{units_of};
 ghost use Rattle.um_core.specs.Laws.{EndsUnsolvable};
 ghost use Rattle.um_core.specs.Search.{IsNext, has_row, outcome};
 

@@ -2,8 +2,8 @@
 ghost use Rattle.std.specs.Prelude.{◌<◌, ◌≤◌, ◌+◌, ◌-◌, ◌^◌, All, IfOk, [], ◌∷◌, length};
 ghost use Rattle.um_units.specs.Variables.{VariablesBelow};
 ghost use Rattle.um_elim.specs.Solution.{parameter_rows};
-ghost use Rattle.um_rows.specs.declared.row.Row.{Row};
-ghost use Rattle.um_rows.specs.Steps.{units_of};
+ghost use Rattle.um_equal_types.specs.declared.row.Row.{Row};
+ghost use Rattle.um_equal_types.specs.Steps.{units_of};
 ghost use Rattle.um_core.specs.Core.{IsCore};
 ghost use Rattle.um_core.specs.Laws.{EndsUnsolvable};
 

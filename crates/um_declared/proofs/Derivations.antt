@@ -11,7 +11,7 @@ use Rattle.um_tree.specs.ProgramTree.{FieldTree, RecordTree, FunctionTree, Progr
 use Rattle.um_tree.specs.TreeHeights.{tree_nodes, all_tree_nodes}
 use Rattle.um_tree.specs.Formed.{IsNoteIn, IsNoteTreeIn, IsTypeIn, IsLiteral, IsFormedIn, AllFormedIn, IsFieldType, IsFormedNote, ResultFormed, IsFormedFunction, IsFormed}
 use Rattle.um_frac.specs.declared.number.Frac.{Frac}
-use Rattle.um_rows.specs.Steps.{Step, types_at, rows_of}
+use Rattle.um_equal_types.specs.Steps.{Step, types_at, rows_of}
 use Rattle.um_slots.specs.Holes.{unit_holes, note_holes, notes_holes, Callee, known_by, itself, nobody, callee_holes, record_holes, expr_holes}
 use Rattle.um_rows.specs.Rules.{Derived, AllDerived, after, formed, item, number_rule, local_rule, call_rule, negate_rule, not_rule, pown_rule, truths_rule, arith_rule, compare_rule, if_rule, split_rule, nil_rule, list_rule, cons_rule, record_rule, field_rule}
 use Rattle.um_rows.specs.Derivation.{first_units, offered, derive, derive_all}

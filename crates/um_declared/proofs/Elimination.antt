@@ -27,8 +27,8 @@ use Rattle.um_elim.proofs.StepLaws.{less, less-zero, power_of-quotients}
 use Rattle.um_elim.proofs.Slots.{length-rigid}
 use Rattle.um_elim.specs.EliminationSteps.{units_after, AreStepsOf}
 use Rattle.um_elim.proofs.FollowedSteps.{eliminate_treated}
-use Rattle.um_rows.specs.declared.row.Row.{Row}
-use Rattle.um_rows.specs.Steps.{units_of}
+use Rattle.um_equal_types.specs.declared.row.Row.{Row}
+use Rattle.um_equal_types.specs.Steps.{units_of}
 use Rattle.um_rows.specs.FirstUnsolvable.{Solving, solved, unsolved, out_of_range, after_row, solve, rows_up_to}
 use Rattle.um_rows.specs.Generalised.{is_parameter, generalised_atom, generalised_unit, generalised}
 use Rattle.um_rows.specs.Judgement.{numbered_scheme, signature_fits, Judgement, has_scheme, too_many_slots, passes_range, has_no_typing, not_general, by_slots, by_solving, by_rows, by_range}

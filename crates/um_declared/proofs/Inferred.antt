@@ -7,8 +7,8 @@ use Rattle.um_tree.specs.ProgramTree.{FunctionTree, ProgramTree, SchemeTree}
 use Rattle.um_tree.specs.Formed.{IsFormed}
 use Rattle.um_tree.specs.Shapes.{IsShaped}
 use Rattle.um_elim.proofs.Cases.{on_test}
-use Rattle.um_rows.specs.declared.row.Row.{Row}
-use Rattle.um_rows.specs.Steps.{Step, row_at, wrong_shape_at, type_at, rows_of, row_units, first_past}
+use Rattle.um_equal_types.specs.declared.row.Row.{Row}
+use Rattle.um_equal_types.specs.Steps.{Step, row_at, wrong_shape_at, type_at, rows_of, row_units, first_past}
 use Rattle.um_slots.specs.Holes.{itself, nobody}
 use Rattle.um_slots.specs.Keys.{hole, name}
 use Rattle.um_slots.specs.Callees.{known_function, may_recur, callee}

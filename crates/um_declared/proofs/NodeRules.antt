@@ -15,10 +15,10 @@ use Rattle.um_tree.specs.TypeTree.{TypeTree, bool_type, num_type, list_type, rec
 use Rattle.um_tree.specs.ProgramTree.{RecordTree, Signature}
 use Rattle.um_tree.specs.Typing.{put, unit_at, field_types}
 use Rattle.um_elim.proofs.Cases.{on_test}
-use Rattle.um_rows.specs.Steps.{Step, row_at, wrong_shape_at, type_at, rows_of}
-use Rattle.um_rows.specs.Against.{never, unit_against, units_against, against, types_against, against_each}
+use Rattle.um_equal_types.specs.Steps.{Step, row_at, wrong_shape_at, type_at, rows_of}
+use Rattle.um_equal_types.specs.Against.{never, unit_against, units_against, against, types_against, against_each}
 use Rattle.um_rows.specs.Rules.{Derived, formed, mismatch, asks_bool, asks_list, item, asks_zero, number_rule, local_rule, call_rule, negate_rule, not_rule, pown_rule, truths_rule, units_rule, arith_rule, compare_rule, if_rule, split_rule, nil_rule, list_rule, cons_rule, record_rule, declared_rule, found_rule, field_rule}
-use Rattle.um_rows.proofs.PushLaws.{rows_of-append}
+use Rattle.um_equal_types.proofs.PushLaws.{rows_of-append}
 use Rattle.um_declared.proofs.Lacks.{Lacks, one_lacks, mul_lacks, pow_lacks, quotient_lacks, item_lacks, TypeLacks, TypesLack, SignatureLacks, put_lacks, types_put_lack}
 
 module _ (m : ℕ) where

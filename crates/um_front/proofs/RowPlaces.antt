@@ -24,9 +24,9 @@ use Rattle.um_slots.specs.Callees.{callee, head_holes}
 use Rattle.um_slots.specs.Keys.{hole, name}
 use Rattle.um_slots.specs.Slots.{function_slots, slot_unit, slot_count}
 use Rattle.um_slots.specs.Noted.{noted_unit, noted_type, noted_types, noted_result}
-use Rattle.um_rows.specs.declared.row.Row.{Row}
-use Rattle.um_rows.specs.Steps.{Step, row_at, wrong_shape_at, type_at, types_at, rows_of, first_past}
-use Rattle.um_rows.specs.Against.{never, units_against, against, types_against, against_each}
+use Rattle.um_equal_types.specs.declared.row.Row.{Row}
+use Rattle.um_equal_types.specs.Steps.{Step, row_at, wrong_shape_at, type_at, types_at, rows_of, first_past}
+use Rattle.um_equal_types.specs.Against.{never, units_against, against, types_against, against_each}
 use Rattle.um_rows.specs.Rules.{Derived, after, formed, item, mismatch, asks_bool, asks_list, asks_zero, local_rule, call_rule, negate_rule, not_rule, pown_rule, truths_rule, units_rule, arith_rule, compare_rule, if_rule, split_rule, list_rule, cons_rule, record_rule, declared_rule, found_rule, field_rule}
 use Rattle.um_rows.specs.Derivation.{first_units, offered, derive, derive_all}
 use Rattle.um_rows.specs.Equations.{result_rows, own_signature, head_steps, equations, slot_equations}

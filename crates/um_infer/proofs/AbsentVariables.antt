@@ -30,8 +30,8 @@ use Rattle.um_elim.proofs.PivotLaws.{is_pivot}
 use Rattle.um_elim.proofs.StepLaws.{less, less-zero, power_of-quotients}
 use Rattle.um_elim.proofs.Rows.{solved_is_most_general, length-solved}
 use Rattle.um_elim.proofs.Slots.{length-rigid}
-use Rattle.um_rows.specs.declared.row.Row.{Row}
-use Rattle.um_rows.specs.Steps.{units_of}
+use Rattle.um_equal_types.specs.declared.row.Row.{Row}
+use Rattle.um_equal_types.specs.Steps.{units_of}
 use Rattle.um_rows.specs.FirstUnsolvable.{Solving, solved, unsolved, out_of_range, after_row, solve}
 use Rattle.um_rows.specs.Generalised.{is_parameter, generalised_atom, generalised_unit}
 

@@ -18,7 +18,7 @@ use Rattle.um_elim.specs.Numbering.{by_place, renumbered, variable_order}
 use Rattle.um_elim.specs.Solution.{rigid_units}
 use Rattle.um_elim.proofs.GrowingOrder.{All-front, All-back}
 use Rattle.um_elim.proofs.VariablesKept.{put_below}
-use Rattle.um_rows.specs.declared.row.Row.{Row}
+use Rattle.um_equal_types.specs.declared.row.Row.{Row}
 use Rattle.um_rows.specs.FirstUnsolvable.{solved, solve}
 use Rattle.um_rows.specs.Generalised.{generalised_unit, generalised}
 use Rattle.um_rows.specs.Judgement.{has_scheme, passes_range, signature_fits, numbered_scheme, by_solving, by_rows}

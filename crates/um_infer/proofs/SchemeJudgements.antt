@@ -5,8 +5,8 @@ use Rattle.std.proofs.lemmas.Bool.Decides.{nat_tests}
 use Rattle.um_tree.specs.ProgramTree.{RecordTree, FunctionTree, ProgramTree, SchemeTree}
 use Rattle.um_tree.specs.Formed.{IsFormed}
 use Rattle.um_elim.proofs.Cases.{on_test}
-use Rattle.um_rows.specs.declared.row.Rows.{Rows}
-use Rattle.um_rows.specs.Steps.{rows_of, units_of, first_past}
+use Rattle.um_equal_types.specs.declared.row.Rows.{Rows}
+use Rattle.um_equal_types.specs.Steps.{rows_of, units_of, first_past}
 use Rattle.um_slots.specs.Slots.{slot_count}
 use Rattle.um_rows.specs.Equations.{Equations, slot_equations}
 use Rattle.um_rows.specs.Solutions.{function_rows, slot_signature, HaveSchemes}

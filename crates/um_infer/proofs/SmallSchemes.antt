@@ -22,8 +22,8 @@ use Rattle.um_elim.proofs.FirstOccurrences.{member, distinct, member-back, membe
 use Rattle.um_elim.proofs.RenamedUnits.{member-held}
 use Rattle.um_elim.proofs.GrowingOrder.{All-front, All-back, All-member, at_most}
 use Rattle.um_elim.proofs.VariablesKept.{unit_below}
-use Rattle.um_rows.specs.declared.row.Row.{Row}
-use Rattle.um_rows.specs.Steps.{rows_of, units_of, first_past}
+use Rattle.um_equal_types.specs.declared.row.Row.{Row}
+use Rattle.um_equal_types.specs.Steps.{rows_of, units_of, first_past}
 use Rattle.um_slots.specs.Slots.{slot_count}
 use Rattle.um_rows.specs.Equations.{slot_equations}
 use Rattle.um_rows.specs.Solutions.{slot_signature}

@@ -10,7 +10,7 @@ use Rattle.um_elim.specs.Elimination.{Solved, eliminate}
 use Rattle.um_elim.specs.Adding.{VariablesStayBelow}
 use Rattle.um_elim.specs.Solution.{Solution, own_variables, rigid, rigid_units}
 use Rattle.um_elim.proofs.Slots.{length-rigid, rigid-own}
-use Rattle.um_rows.specs.declared.row.Row.{Row}
+use Rattle.um_equal_types.specs.declared.row.Row.{Row}
 use Rattle.um_rows.specs.FirstUnsolvable.{Solving, unsolved, out_of_range, after_row, solve, rows_up_to}
 use Rattle.um_rows.specs.Judgement.{by_slots, by_solving, by_rows}
 use Rattle.um_infer.specs.declared.refusal.Refusal.{Refusal}

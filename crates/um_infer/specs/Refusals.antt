@@ -1,8 +1,8 @@
 -- What a refusal becomes: that of the rows one of a function or a call, and this one of the program or of the call.
 -- Source: this project's own.
 use Rattle.std.specs.Prelude.{ℕ}
-use Rattle.um_rows.specs.declared.row.RowStop.{RowStop}
-use Rattle.um_rows.specs.declared.row.RowStop.TheVariants as rows
+use Rattle.um_equal_types.specs.declared.row.RowStop.{RowStop}
+use Rattle.um_equal_types.specs.declared.row.RowStop.TheVariants as rows
 use Rattle.um_infer.specs.declared.refusal.Refusal.{Refusal}
 use Rattle.um_infer.specs.declared.refusal.Refusal.TheVariants as refusal
 use Rattle.um_infer.specs.declared.stop.InferStop.{InferStop}

@@ -9,7 +9,7 @@ ghost use Rattle.um_tree.specs.Typing.{put};
 ghost use Rattle.um_tree.specs.Scheme.{signature_types, variables};
 ghost use Rattle.um_elim.specs.Application.{type_fits};
 ghost use Rattle.um_elim.specs.Numbering.{renumbered, variable_order};
-ghost use Rattle.um_rows.specs.declared.row.Row.{Row};
+ghost use Rattle.um_equal_types.specs.declared.row.Row.{Row};
 ghost use Rattle.um_rows.specs.Answers.{rows_signature};
 ghost use Rattle.um_rows.specs.Judgement.{by_rows};
 ghost use Rattle.um_infer.specs.Forming.{IsAnswer, RefusesUnless};

@@ -7,7 +7,7 @@ ghost use Rattle.um_tree.specs.ProgramTree.{SchemeTree};
 ghost use Rattle.um_tree.specs.Typing.{put};
 ghost use Rattle.um_tree.specs.Scheme.{signature_types};
 ghost use Rattle.um_elim.specs.Solution.{rigid_units};
-ghost use Rattle.um_rows.specs.declared.row.Row.{Row};
+ghost use Rattle.um_equal_types.specs.declared.row.Row.{Row};
 ghost use Rattle.um_rows.specs.Answers.{rows_signature};
 ghost use Rattle.um_rows.specs.Judgement.{has_scheme, by_rows};
 ghost use Rattle.um_infer.specs.Forming.{IsSolutionOf, IsRefusal};

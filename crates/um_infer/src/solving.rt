@@ -3,7 +3,7 @@ ghost use Rattle.std.specs.Prelude.{◌≡◌, ◌≤◌, ◌<◌, ◌+◌, ◌^
 ghost use Rattle.um_units.specs.Variables.{VariablesBelow};
 ghost use Rattle.um_elim.specs.Adding.{VariablesStayBelow};
 ghost use Rattle.um_elim.specs.Solution.{own_variables, rigid_units};
-ghost use Rattle.um_rows.specs.declared.row.Row.{Row};
+ghost use Rattle.um_equal_types.specs.declared.row.Row.{Row};
 ghost use Rattle.um_rows.specs.FirstUnsolvable.{solve, rows_up_to};
 ghost use Rattle.um_rows.specs.Judgement.{by_slots};
 ghost use Rattle.um_infer.specs.Forming.{IsRowAdded, AreSolved, AreRigidlySolved, IsRefusal};

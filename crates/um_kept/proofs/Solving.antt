@@ -25,8 +25,8 @@ use Rattle.um_elim.proofs.Cases.{on_test}
 use Rattle.um_elim.proofs.PivotLaws.{is_pivot}
 use Rattle.um_elim.proofs.Shear.{power_of-multiply, replace-multiply}
 use Rattle.um_elim.proofs.StepLaws.{power_of-quotients_pivot, less, power_of-quotients}
-use Rattle.um_rows.specs.declared.row.Row.{Row}
-use Rattle.um_rows.specs.Steps.{units_of}
+use Rattle.um_equal_types.specs.declared.row.Row.{Row}
+use Rattle.um_equal_types.specs.Steps.{units_of}
 use Rattle.um_rows.specs.FirstUnsolvable.{Solving, solved, unsolved, out_of_range, after_row, solve}
 use Rattle.um_elim.specs.EliminationSteps.{unit_after, units_after, AreStepsOf, IsSolvedBySteps, IsClosedLeft, IsStuck}
 use Rattle.um_elim.proofs.FollowedSteps.{eliminate_treated, eliminate_refused}

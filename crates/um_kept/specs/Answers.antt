@@ -11,9 +11,9 @@ use Rattle.um_units.specs.Variables.{VariablesBelow, atom_below}
 use Rattle.um_wide.specs.Room.{IsNarrow}
 use Rattle.um_elim.specs.declared.elim_step.ElimStep.{ElimStep}
 use Rattle.um_elim.specs.EliminationSteps.{AreStepsOf, IsClosedLeft, IsStuck}
-use Rattle.um_rows.specs.declared.row.Row.{Row}
+use Rattle.um_equal_types.specs.declared.row.Row.{Row}
 use Rattle.um_rows.specs.Generalised.{is_parameter}
-use Rattle.um_rows.specs.Steps.{units_of}
+use Rattle.um_equal_types.specs.Steps.{units_of}
 use Rattle.um_kept.specs.declared.kept.PartialCertificate.{PartialCertificate}
 use Rattle.um_kept.specs.declared.kept.Head.{Head}
 use Rattle.um_kept.specs.declared.row.Refused.{Refused}

@@ -4,7 +4,7 @@ ghost use Rattle.std.specs.Prelude.{◌≡◌, ◌≤◌, ◌<◌, ◌+◌, ◌^
 ghost use Rattle.um_units.specs.declared.Atom.TheVariants.{Base};
 ghost use Rattle.um_units.specs.PowerMap.{power_of};
 ghost use Rattle.um_units.specs.Variables.{VariablesBelow};
-ghost use Rattle.um_rows.specs.declared.row.Row.{Row as RowData};
+ghost use Rattle.um_equal_types.specs.declared.row.Row.{Row as RowData};
 ghost use Rattle.um_wide.specs.Room.{IsNarrow};
 ghost use Rattle.um_check.specs.Combination.{NamesRowsBelow};
 ghost use Rattle.um_check.specs.Existence.{exponents};

@@ -12,8 +12,8 @@ use Rattle.um_elim.specs.Elimination.{Elimination, Solved, NoSolution, Range, el
 use Rattle.um_elim.specs.Solution.{own_variables, rigid_units, parameter_rows}
 use Rattle.um_elim.proofs.Cases.{on_test}
 use Rattle.um_elim.proofs.Slots.{rigid-own}
-use Rattle.um_rows.specs.declared.row.Row.{Row}
-use Rattle.um_rows.specs.Steps.{units_of}
+use Rattle.um_equal_types.specs.declared.row.Row.{Row}
+use Rattle.um_equal_types.specs.Steps.{units_of}
 use Rattle.um_rows.specs.FirstUnsolvable.{Solving, solved, unsolved, out_of_range, after_row, solve, rows_up_to}
 use Rattle.um_rows.specs.Generalised.{generalised}
 use Rattle.um_rows.specs.Judgement.{Judgement, has_scheme, passes_range, has_no_typing, not_general, signature_fits, numbered_scheme, by_slots, by_solution, by_solving, by_rows}

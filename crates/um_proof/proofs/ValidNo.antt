@@ -8,10 +8,10 @@ use Rattle.um_units.specs.PowerMap.{PowerMap, one, replace, nth}
 use Rattle.um_units.specs.Variables.{VariablesBelow}
 use Rattle.um_elim.specs.Solution.{own_variables, rigid_unit, rigid_units}
 use Rattle.um_elim.proofs.Slots.{rigid-own}
-use Rattle.um_rows.specs.declared.row.Row.{Row}
-use Rattle.um_rows.specs.declared.row.Rows.{Rows}
+use Rattle.um_equal_types.specs.declared.row.Row.{Row}
+use Rattle.um_equal_types.specs.declared.row.Rows.{Rows}
 use Rattle.um_rows.specs.Answers.{rows_signature}
-use Rattle.um_rows.specs.Steps.{units_of}
+use Rattle.um_equal_types.specs.Steps.{units_of}
 use Rattle.um_rows.specs.FirstUnsolvable.{solved, unsolved, out_of_range, solve, rows_up_to}
 use Rattle.um_rows.specs.Judgement.{Judgement, has_no_typing, not_general}
 use Rattle.um_check.specs.declared.certificate.No.{No}

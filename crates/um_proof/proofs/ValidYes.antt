@@ -20,10 +20,10 @@ use Rattle.um_elim.specs.Numbering.{variable_order, place, by_place}
 use Rattle.um_elim.specs.Solution.{rigid_units}
 use Rattle.um_elim.proofs.GrowingOrder.{All-member}
 use Rattle.um_elim.proofs.RenamedUnits.{held-member}
-use Rattle.um_rows.specs.declared.row.Rows.{Rows}
-use Rattle.um_rows.specs.declared.row.Row.{Row}
+use Rattle.um_equal_types.specs.declared.row.Rows.{Rows}
+use Rattle.um_equal_types.specs.declared.row.Row.{Row}
 use Rattle.um_rows.specs.Answers.{rows_signature}
-use Rattle.um_rows.specs.Steps.{units_of}
+use Rattle.um_equal_types.specs.Steps.{units_of}
 use Rattle.um_rows.specs.Solutions.{IsRigid}
 use Rattle.um_rows.specs.FirstUnsolvable.{solved, solve}
 use Rattle.um_rows.specs.Generalised.{generalised, generalised_unit}

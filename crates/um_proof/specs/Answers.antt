@@ -6,9 +6,9 @@ use Rattle.um_units.specs.Variables.{VariablesBelow}
 use Rattle.um_tree.specs.ProgramTree.{SchemeTree}
 use Rattle.um_tree.specs.Laws.{TypeHas}
 use Rattle.um_tree.specs.Scheme.{signature_types, variables}
-use Rattle.um_rows.specs.declared.row.Rows.{Rows}
+use Rattle.um_equal_types.specs.declared.row.Rows.{Rows}
 use Rattle.um_rows.specs.Answers.{rows_signature}
-use Rattle.um_rows.specs.Steps.{units_of}
+use Rattle.um_equal_types.specs.Steps.{units_of}
 use Rattle.um_rows.specs.Judgement.{Judgement, has_no_typing, not_general, by_rows}
 use Rattle.um_check.specs.declared.certificate.Yes.{Yes}
 use Rattle.um_check.specs.declared.certificate.No.{No}

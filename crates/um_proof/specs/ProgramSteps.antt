@@ -4,7 +4,7 @@ use Rattle.std.specs.Prelude.{◌≡◌, ◌⊎◌, ℕ, ◌≤◌, List, length
 use Rattle.um_tree.specs.ProgramTree.{FunctionTree, ProgramTree, SchemeTree}
 use Rattle.um_slots.specs.Slots.{slot_count}
 use Rattle.um_rows.specs.Equations.{slot_equations}
-use Rattle.um_rows.specs.Steps.{first_past}
+use Rattle.um_equal_types.specs.Steps.{first_past}
 use Rattle.um_infer.specs.Inference.{Inference, all_schemes, stops_at_units, stops_at_not_general, infer_first}
 use Rattle.um_kept.specs.declared.stop.CertStop.{CertStop}
 use Rattle.um_kept.specs.declared.stop.CertStop.TheVariants as stop

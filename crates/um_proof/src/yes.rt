@@ -8,7 +8,7 @@ ghost use Rattle.um_units.specs.PowerMap.{one, atom, inv, mul, nth, power_of, re
 ghost use Rattle.um_units.specs.Variables.{VariablesBelow};
 ghost use Rattle.um_tree.specs.ProgramTree.{SchemeTree, scheme_tree};
 ghost use Rattle.um_wide.specs.Room.{IsNarrow};
-ghost use Rattle.um_rows.specs.Steps.{units_of};
+ghost use Rattle.um_equal_types.specs.Steps.{units_of};
 ghost use Rattle.um_rows.specs.Judgement.{has_scheme};
 ghost use Rattle.um_check.specs.Combination.{NamesRowsBelow};
 ghost use Rattle.um_check.specs.Validity.{returned};

@@ -9,8 +9,8 @@ use Rattle.um_units.specs.Variables.{VariablesBelow}
 use Rattle.um_elim.specs.Elimination.{Elimination, Solved, NoSolution, Range, eliminate, on_solved, eliminate_rows}
 use Rattle.um_elim.specs.Solution.{Solution, rigid, rigid_units}
 use Rattle.um_elim.proofs.Slots.{length-rigid}
-use Rattle.um_rows.specs.declared.row.Row.{Row}
-use Rattle.um_rows.specs.Steps.{units_of}
+use Rattle.um_equal_types.specs.declared.row.Row.{Row}
+use Rattle.um_equal_types.specs.Steps.{units_of}
 use Rattle.um_reasons.specs.Reasons.{numbered, other_rows}
 use Rattle.um_reasons.specs.Answers.{IsUnsolved, IsSolving, IsJoined, IsJoinedIf}
 

@@ -25,7 +25,7 @@ use Rattle.um_elim.proofs.RenamedUnits.{put-put, put_alike}
 use Rattle.um_elim.proofs.Rows.{solved_is_most_general, length-solved, exactly-more}
 use Rattle.um_elim.proofs.Slots.{length-rigid, rigid_is_general}
 use Rattle.um_elim.proofs.VariablesKept.{solved_below, all_rigid_below, put_below}
-use Rattle.um_rows.specs.Steps.{units_of}
+use Rattle.um_equal_types.specs.Steps.{units_of}
 use Rattle.um_agree.specs.Agreements.{Agreement, agreement_rows}
 use Rattle.um_agree.proofs.AgreementRows.{agreements_are_equalities}
 use Rattle.um_core.specs.Core.{picked, IsCore}

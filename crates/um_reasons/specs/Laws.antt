@@ -8,7 +8,7 @@ use Rattle.um_tree.specs.TypeTree.{TypeTree}
 use Rattle.um_tree.specs.Typing.{put}
 use Rattle.um_tree.specs.Scheme.{type_variables}
 use Rattle.um_elim.specs.Solution.{parameter_rows}
-use Rattle.um_rows.specs.Steps.{units_of}
+use Rattle.um_equal_types.specs.Steps.{units_of}
 use Rattle.um_agree.specs.Agreements.{Agreement, agreement_rows}
 use Rattle.um_core.specs.Core.{IsCore}
 use Rattle.um_core.specs.Laws.{EndsUnsolvable}

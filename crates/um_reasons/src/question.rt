@@ -5,8 +5,8 @@ ghost use Rattle.std.specs.List.{list_any};
 ghost use Rattle.um_units.specs.Variables.{VariablesBelow};
 ghost use Rattle.um_elim.specs.Elimination.{eliminate_rows};
 ghost use Rattle.um_elim.specs.Solution.{rigid_units};
-ghost use Rattle.um_rows.specs.declared.row.Row.{Row};
-ghost use Rattle.um_rows.specs.Steps.{units_of};
+ghost use Rattle.um_equal_types.specs.declared.row.Row.{Row};
+ghost use Rattle.um_equal_types.specs.Steps.{units_of};
 ghost use Rattle.um_reasons.specs.Reasons.{numbered, other_rows};
 ghost use Rattle.um_reasons.specs.Answers.{IsSolving, IsJoined, IsJoinedIf};
 

@@ -7,8 +7,8 @@ ghost use Rattle.um_units.specs.Range.{fits};
 ghost use Rattle.um_units.specs.Variables.{VariablesBelow};
 ghost use Rattle.um_tree.specs.TypeTree.{type_tree, num_type};
 ghost use Rattle.um_tree.specs.Typing.{put};
-ghost use Rattle.um_rows.specs.declared.row.Row.{Row};
-ghost use Rattle.um_rows.specs.Steps.{units_of};
+ghost use Rattle.um_equal_types.specs.declared.row.Row.{Row};
+ghost use Rattle.um_equal_types.specs.Steps.{units_of};
 ghost use Rattle.um_reasons.specs.Reasons.{disagree, is_open, factor, by_units, reason};
 ghost use Rattle.um_reasons.specs.Answers.{reason_tree, IsApplied};
 

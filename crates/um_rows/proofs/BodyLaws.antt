@@ -7,16 +7,16 @@ use Rattle.um_tree.specs.TypeTree.{TypeTree, type_tree, NoteTree}
 use Rattle.um_tree.specs.ExprTree.{ExprTree}
 use Rattle.um_tree.specs.ProgramTree.{record_tree}
 use Rattle.um_slots.specs.declared.context.Context.{Context}
-use Rattle.um_rows.specs.declared.row.Row.{Row}
-use Rattle.um_rows.specs.declared.row.RowStop.{RowStop}
-use Rattle.um_rows.specs.declared.row.RowStop.TheVariants as stop
-use Rattle.um_rows.specs.Steps.{Step, rows_of, first_past}
+use Rattle.um_equal_types.specs.declared.row.Row.{Row}
+use Rattle.um_equal_types.specs.declared.row.RowStop.{RowStop}
+use Rattle.um_equal_types.specs.declared.row.RowStop.TheVariants as stop
+use Rattle.um_equal_types.specs.Steps.{Step, rows_of, first_past}
 use Rattle.um_rows.specs.Rules.{Derived}
-use Rattle.um_rows.specs.Pushed.{AreBehind, StopsPast}
+use Rattle.um_equal_types.specs.Pushed.{AreBehind, StopsPast}
 use Rattle.um_rows.specs.Walk.{Walked, unless_past, node}
 use Rattle.um_rows.specs.Reached.{StopsAs}
 use Rattle.um_rows.specs.Body.{noted_signature, called, body_walk, body_holes, noted_rows, body_derived, body_steps}
-use Rattle.um_rows.proofs.PushLaws.{stops_front, stops_back, behind-append}
+use Rattle.um_equal_types.proofs.PushLaws.{stops_front, stops_back, behind-append}
 use Rattle.um_rows.proofs.WalkLaws.{walk-is}
 
 -- ---- what a node says of its steps

@@ -11,13 +11,13 @@ use Rattle.um_tree.specs.ExprTree.{ExprTree, ExprTrees, truth, number, local, ca
 use Rattle.um_tree.specs.ProgramTree.{RecordTree, Signature}
 use Rattle.um_tree.specs.Typing.{put, put_signature, unit_at, field_types, UnitMatches, UnitsMatch, Matches, LiteralUnit, Typed, AllTyped}
 use Rattle.um_rows.proofs.PutLiterals.{put_literal, put_literals, all_put_literals}
-use Rattle.um_rows.specs.Against.{types_against}
+use Rattle.um_equal_types.specs.Against.{types_against}
 use Rattle.um_slots.specs.Holes.{unit_holes, units_holes, note_holes, Callee, known_by, itself, nobody, callee_holes, record_holes, expr_holes, exprs_holes}
 use Rattle.um_rows.specs.Rules.{Derived, item, asks_zero, number_rule, call_rule, negate_rule, not_rule, pown_rule, truths_rule, arith_rule, compare_rule, if_rule, split_rule, list_rule, cons_rule, record_rule, field_rule}
 use Rattle.um_rows.specs.Derivation.{first_units, offered, derive, derive_all}
 use Rattle.um_slots.specs.Noted.{noted_unit, noted_units, noted_type}
-use Rattle.um_rows.proofs.HeldSteps.{Holds, Holds-append}
-use Rattle.um_rows.proofs.TypesAgainst.{rows-types_same}
+use Rattle.um_equal_types.proofs.HeldSteps.{Holds, Holds-append}
+use Rattle.um_equal_types.proofs.TypesAgainst.{rows-types_same}
 use Rattle.um_elim.proofs.RenamedUnits.{put-put, puts-put}
 use Rattle.um_rows.proofs.PutTypes.{first_units-are}
 use Rattle.um_rows.proofs.Variables.{CalleeBelow, put_alike_below, types_put_alike_below}

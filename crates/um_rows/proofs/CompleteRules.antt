@@ -14,11 +14,12 @@ use Rattle.um_tree.specs.declared.note.UnitNote.TheVariants.{Hole}
 use Rattle.um_tree.specs.TypeTree.{TypeTree, bool_type, num_type, list_type, record_type}
 use Rattle.um_tree.specs.ProgramTree.{RecordTree}
 use Rattle.um_tree.specs.Typing.{put, unit_at, ArithUnit, EachIs, field_types, IsRecordAt}
-use Rattle.um_rows.specs.Steps.{Step}
-use Rattle.um_rows.specs.Against.{never, against, types_against, against_each}
+use Rattle.um_equal_types.specs.Steps.{Step}
+use Rattle.um_equal_types.specs.Against.{never, against, types_against, against_each}
 use Rattle.um_rows.specs.Rules.{Derived, after, formed, asks_bool, asks_list, item, asks_zero, local_rule, negate_rule, not_rule, pown_rule, truths_rule, units_rule, arith_rule, compare_rule, if_rule, split_rule, nil_rule, list_rule, cons_rule, record_rule, declared_rule, found_rule, field_rule}
-use Rattle.um_rows.proofs.HeldSteps.{Holds, Holds-append, formed-holds, row-same}
-use Rattle.um_rows.proofs.TypesAgainst.{rows-same, rows-types_same, rows-each_same}
+use Rattle.um_equal_types.proofs.HeldSteps.{Holds, Holds-append, row-same}
+use Rattle.um_rows.proofs.HeldNodes.{formed-holds}
+use Rattle.um_equal_types.proofs.TypesAgainst.{rows-same, rows-types_same, rows-each_same}
 use Rattle.um_rows.proofs.PutTypes.{put-field, put-fields}
 
 -- at the units v the type is t, and each row is 1

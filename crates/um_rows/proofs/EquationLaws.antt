@@ -15,14 +15,14 @@ use Rattle.um_elim.proofs.Cases.{on_test}
 use Rattle.um_slots.specs.declared.context.Context.{Context}
 use Rattle.um_slots.specs.declared.stop.SlotStop.{SlotStop}
 use Rattle.um_slots.specs.declared.stop.SlotStop.TheVariants as slot_stop
-use Rattle.um_rows.specs.declared.row.Rows.{Rows}
+use Rattle.um_equal_types.specs.declared.row.Rows.{Rows}
 use Rattle.um_rows.specs.declared.nodes.TypedRows.{TypedRows}
-use Rattle.um_rows.specs.declared.row.RowStop.{RowStop}
-use Rattle.um_rows.specs.declared.row.RowStop.TheVariants as stop
+use Rattle.um_equal_types.specs.declared.row.RowStop.{RowStop}
+use Rattle.um_equal_types.specs.declared.row.RowStop.TheVariants as stop
 use Rattle.um_slots.specs.declared.slots.Slots.{Slots}
-use Rattle.um_rows.specs.Steps.{Step, types_at, rows_of, first_past}
+use Rattle.um_equal_types.specs.Steps.{Step, types_at, rows_of, first_past}
 use Rattle.um_slots.specs.Holes.{itself, nobody, notes_holes}
-use Rattle.um_rows.specs.Against.{against}
+use Rattle.um_equal_types.specs.Against.{against}
 use Rattle.um_rows.specs.Rules.{Derived}
 use Rattle.um_slots.specs.Noted.{noted_types, noted_result}
 use Rattle.um_rows.specs.Derivation.{derive}
@@ -32,8 +32,8 @@ use Rattle.um_slots.specs.Keys.{Key, hole, name, function_keys}
 use Rattle.um_slots.specs.Slots.{has_slot, place, own_number, slot_unit, slot_order, slot_count}
 use Rattle.um_slots.specs.Slotting.{with_keys, IsTable, StopsSlots, name_unit}
 use Rattle.um_slots.specs.SlotUnits.{AreNumbered, AreVariables}
-use Rattle.um_rows.specs.SlotStops.{row_stop}
-use Rattle.um_rows.specs.Pushed.{StopsPast}
+use Rattle.um_equal_types.specs.SlotStops.{row_stop}
+use Rattle.um_equal_types.specs.Pushed.{StopsPast}
 use Rattle.um_rows.specs.Closed.{IsClosedScheme, AreClosedBefore}
 use Rattle.um_rows.specs.Body.{noted_rows, body_derived, body_steps, AreBodyRows}
 use Rattle.um_slots.specs.Contexts.{IsContextOf}
@@ -42,7 +42,7 @@ use Rattle.um_slots.proofs.KeyOrder.{has-order, with_none, at-place}
 use Rattle.um_rows.proofs.SlotLaws.{here, behind}
 use Rattle.um_rows.proofs.Variables.{CalleeBelow}
 use Rattle.um_rows.proofs.OfferLaws.{all_below}
-use Rattle.um_rows.proofs.PushLaws.{first_of, first_past-append, rows_of-append}
+use Rattle.um_equal_types.proofs.PushLaws.{first_of, first_past-append, rows_of-append}
 use Rattle.um_rows.specs.NodeTypes.{derived_nodes, function_nodes}
 use Rattle.um_rows.proofs.SameDerivation.{KeysAlike, same_body, same_equations}
 

@@ -14,8 +14,8 @@ use Rattle.um_tree.specs.TypeTree.{TypeTree, bool_type, num_type, list_type, rec
 use Rattle.um_tree.specs.ExprTree.{ExprTree, number, local, call, pown, arith as arith_tree, compare, both, if, split, nil, cons, record_expr, field, none, more}
 use Rattle.um_tree.specs.ProgramTree.{RecordTree, FunctionTree, SchemeTree}
 use Rattle.um_tree.proofs.ExamplePrograms.{zero_number, one_number, plain, rec_function, marked}
-use Rattle.um_rows.specs.declared.row.Row.{Row}
-use Rattle.um_rows.specs.Steps.{Step, rows_of, first_past}
+use Rattle.um_equal_types.specs.declared.row.Row.{Row}
+use Rattle.um_equal_types.specs.Steps.{Step, rows_of, first_past}
 use Rattle.um_elim.proofs.Cases.{on_test}
 use Rattle.um_slots.specs.Keys.{hole, hole_keys}
 use Rattle.um_slots.specs.Slots.{same_key, slot_order, slot_count}

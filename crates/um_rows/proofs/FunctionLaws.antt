@@ -15,8 +15,8 @@ use Rattle.um_slots.specs.Noted.{noted_type, noted_types, noted_result}
 use Rattle.um_rows.specs.Derivation.{derive}
 use Rattle.um_slots.specs.Callees.{known_function, may_recur, callee, head_holes}
 use Rattle.um_rows.specs.Equations.{result_rows, own_signature, head_steps, equations}
-use Rattle.um_rows.proofs.HeldSteps.{Holds, Holds-front, Holds-back, Holds-append, types_hold}
-use Rattle.um_rows.proofs.TypesAgainst.{same_from_rows, rows-same}
+use Rattle.um_equal_types.proofs.HeldSteps.{Holds, Holds-front, Holds-back, Holds-append, types_hold}
+use Rattle.um_equal_types.proofs.TypesAgainst.{same_from_rows, rows-same}
 use Rattle.um_rows.proofs.Variables.{SignatureBelow, CalleeBelow}
 use Rattle.um_rows.proofs.Callees.{Offers}
 use Rattle.um_rows.proofs.Sound.{note_sound, sound}

@@ -16,8 +16,8 @@ use Rattle.um_elim.specs.Instances.{SolvesExactly}
 use Rattle.um_elim.specs.Solution.{own_variables, rigid_units, parameter_rows}
 use Rattle.um_elim.proofs.Cases.{on_test}
 use Rattle.um_elim.proofs.Slots.{rows_solved, fixed_by_rows}
-use Rattle.um_rows.specs.declared.row.Row.{Row}
-use Rattle.um_rows.specs.Steps.{rows_of, units_of, first_past}
+use Rattle.um_equal_types.specs.declared.row.Row.{Row}
+use Rattle.um_equal_types.specs.Steps.{rows_of, units_of, first_past}
 use Rattle.um_slots.specs.Slots.{slot_count}
 use Rattle.um_rows.specs.Equations.{slot_equations}
 use Rattle.um_rows.specs.Solutions.{slot_signature, IsSolution, IsRigid, HaveSchemes}

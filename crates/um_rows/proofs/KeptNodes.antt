@@ -9,8 +9,8 @@ use Rattle.um_tree.specs.TypeTree.{TypeTree, bool_type, type_tree}
 use Rattle.um_tree.specs.ExprTree.{ExprTree, ExprTrees, truth, number, local, call, negate, not_expr, pown, arith as arith_tree, compare, both, either, if, bind, split, nil, list_expr, cons, record_expr, field, none, more}
 use Rattle.um_tree.specs.ProgramTree.{RecordTree, Signature, record_tree}
 use Rattle.um_slots.specs.declared.context.Context.{Context}
-use Rattle.um_rows.specs.declared.row.Row.{Row}
-use Rattle.um_rows.specs.Steps.{Step, first_past, rows_of}
+use Rattle.um_equal_types.specs.declared.row.Row.{Row}
+use Rattle.um_equal_types.specs.Steps.{Step, first_past, rows_of}
 use Rattle.um_rows.specs.NodeTypes.{TypedNode, nodes_of, derived_nodes}
 use Rattle.um_slots.specs.Holes.{Callee, callee_holes, record_holes, expr_holes}
 use Rattle.um_slots.specs.Noted.{noted_unit, noted_type}

@@ -1,6 +1,5 @@
 mod Examples
-pub mod HeldSteps
-pub mod TypesAgainst
+pub mod HeldNodes
 pub mod PutTypes
 pub mod Variables
 pub mod SoundRules
@@ -23,7 +22,6 @@ pub mod GeneralisedUnits
 pub mod JudgementLaws
 pub mod GeneralLaws
 pub mod CallLaws
-pub mod PushLaws
 pub mod WalkLaws
 pub mod NodeLaws
 pub mod SliceLaws

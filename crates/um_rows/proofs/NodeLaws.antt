@@ -14,17 +14,17 @@ use Rattle.um_units.specs.PowerMap.{PowerMap}
 use Rattle.um_tree.specs.declared.note.UnitNote.{UnitNote}
 use Rattle.um_tree.specs.declared.note.UnitNote.TheVariants.{Hole, Written}
 use Rattle.um_elim.proofs.Cases.{on_test}
-use Rattle.um_rows.specs.Against.{never}
+use Rattle.um_equal_types.specs.Against.{never}
 use Rattle.um_elim.specs.Application.{type_fits}
-use Rattle.um_rows.specs.declared.row.Row.{Row}
-use Rattle.um_rows.specs.declared.row.RowStop.{RowStop}
-use Rattle.um_rows.specs.declared.row.RowStop.TheVariants as stop
-use Rattle.um_rows.specs.Steps.{Step, type_at, first_past, rows_of}
-use Rattle.um_rows.specs.Pushed.{AreBehind, StopsPast}
+use Rattle.um_equal_types.specs.declared.row.Row.{Row}
+use Rattle.um_equal_types.specs.declared.row.RowStop.{RowStop}
+use Rattle.um_equal_types.specs.declared.row.RowStop.TheVariants as stop
+use Rattle.um_equal_types.specs.Steps.{Step, type_at, first_past, rows_of}
+use Rattle.um_equal_types.specs.Pushed.{AreBehind, StopsPast}
 use Rattle.um_rows.specs.Rules.{formed, asks_zero, asks_list, local_rule, number_rule, nil_rule}
 use Rattle.um_rows.specs.Walk.{unless_past, node}
 use Rattle.um_rows.specs.Reached.{StopsAs}
-use Rattle.um_rows.proofs.PushLaws.{first_of, first_past-append, rows_of-append, never_in_range}
+use Rattle.um_equal_types.proofs.PushLaws.{first_of, first_past-append, rows_of-append, never_in_range}
 
 rows_of-formed : (at : ℕ) (rows : List Step) (t : TypeTree) → rows_of (rows ++ type_at at t ∷ []) ≡ rows_of rows
 rows_of-formed at rows t = rows_of-append rows (type_at at t ∷ []) ∙ append-nil (rows_of rows)

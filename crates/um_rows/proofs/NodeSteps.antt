@@ -12,8 +12,8 @@ use Rattle.um_tree.specs.TypeTree.{TypeTree, bool_type, num_type, list_type, rec
 use Rattle.um_tree.specs.ProgramTree.{RecordTree, Signature}
 use Rattle.um_tree.specs.Typing.{put, unit_at, field_types}
 use Rattle.um_rows.specs.NodeTypes.{nodes_of, derived_nodes}
-use Rattle.um_rows.specs.Steps.{Step, row_at, wrong_shape_at, type_at}
-use Rattle.um_rows.specs.Against.{never, units_against, against, types_against, against_each}
+use Rattle.um_equal_types.specs.Steps.{Step, row_at, wrong_shape_at, type_at}
+use Rattle.um_equal_types.specs.Against.{never, units_against, against, types_against, against_each}
 use Rattle.um_rows.specs.Rules.{Derived, after, formed, asks_bool, asks_list, number_rule, local_rule, call_rule, negate_rule, not_rule, pown_rule, truths_rule, units_rule, arith_rule, compare_rule, if_rule, split_rule, nil_rule, list_rule, cons_rule, record_rule, declared_rule, found_rule, field_rule}
 
 pub nodes_of-append : (a b : List Step) → nodes_of (a ++ b) ≡ nodes_of a ++ nodes_of b

@@ -6,7 +6,7 @@ use Rattle.um_tree.specs.Typing.{Earlier, typings_below}
 use Rattle.um_slots.specs.Holes.{notes_holes}
 use Rattle.um_slots.specs.Keys.{hole, name}
 use Rattle.um_slots.specs.Slots.{function_slots, slot_unit, slot_count}
-use Rattle.um_rows.specs.Steps.{Step, row_at, wrong_shape_at, type_at}
+use Rattle.um_equal_types.specs.Steps.{Step, row_at, wrong_shape_at, type_at}
 use Rattle.um_rows.specs.Equations.{head_steps, result_rows}
 use Rattle.um_rows.specs.NodeTypes.{TypedNode, nodes_of, derived_body, function_nodes}
 use Rattle.um_rows.specs.Laws.{NodesHoldSlots}

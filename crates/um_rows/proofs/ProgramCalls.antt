@@ -12,9 +12,9 @@ use Rattle.um_tree.specs.ProgramTree.{FunctionTree, SchemeTree, function_tree, p
 use Rattle.um_tree.specs.Typing.{put_signature}
 use Rattle.um_tree.specs.Shapes.{note_shape}
 use Rattle.um_tree.specs.Formed.{IsFormed, AreFormedInputs}
-use Rattle.um_rows.specs.declared.row.Rows.{Rows}
-use Rattle.um_rows.specs.declared.row.RowStop.{RowStop}
-use Rattle.um_rows.specs.Steps.{rows_of, units_of}
+use Rattle.um_equal_types.specs.declared.row.Rows.{Rows}
+use Rattle.um_equal_types.specs.declared.row.RowStop.{RowStop}
+use Rattle.um_equal_types.specs.Steps.{rows_of, units_of}
 use Rattle.um_slots.specs.Slots.{slot_count}
 use Rattle.um_rows.specs.Equations.{slot_equations}
 use Rattle.um_rows.specs.Solutions.{IsSolved}

@@ -20,13 +20,13 @@ use Rattle.um_tree.specs.Typing.{put_signature, IsLooseTypingOf, IsRigidTypingOf
 use Rattle.um_tree.specs.Laws.{TypeHas}
 use Rattle.um_tree.specs.Formed.{IsTypeIn, IsFieldType, IsFormed}
 use Rattle.um_tree.proofs.WrittenUnits.{formed_literals_are_closed}
-use Rattle.um_rows.specs.declared.row.Row.{Row}
-use Rattle.um_rows.specs.declared.row.Rows.{Rows}
+use Rattle.um_equal_types.specs.declared.row.Row.{Row}
+use Rattle.um_equal_types.specs.declared.row.Rows.{Rows}
 use Rattle.um_rows.specs.declared.nodes.TypedRows.{TypedRows}
-use Rattle.um_rows.specs.declared.row.RowStop.{RowStop}
-use Rattle.um_rows.specs.declared.row.RowStop.TheVariants as stop
+use Rattle.um_equal_types.specs.declared.row.RowStop.{RowStop}
+use Rattle.um_equal_types.specs.declared.row.RowStop.TheVariants as stop
 use Rattle.um_tree.proofs.Moved.{slice_get_moved}
-use Rattle.um_rows.specs.Steps.{rows_of, units_of}
+use Rattle.um_equal_types.specs.Steps.{rows_of, units_of}
 use Rattle.um_slots.specs.Slots.{slot_count}
 use Rattle.um_rows.specs.Equations.{slot_equations}
 use Rattle.um_rows.specs.Solutions.{slot_signature, HaveSchemes}

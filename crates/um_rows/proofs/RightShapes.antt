@@ -21,8 +21,8 @@ use Rattle.um_tree.specs.Shapes.{type_shape, note_shape, ShapeSignature, EachSha
 use Rattle.um_tree.specs.Formed.{TakesUnits, IsTypeIn, IsNoteTreeIn, IsLiteral, IsFieldType, IsFormedIn, AllFormedIn, IsFormedNote, ResultFormed, IsFormed}
 use Rattle.um_tree.proofs.Below.{earlier_shapes_are}
 use Rattle.um_shape.proofs.SoundProgram.{its_shapes}
-use Rattle.um_rows.specs.Steps.{Step, row_at, wrong_shape_at, type_at, types_at}
-use Rattle.um_rows.specs.Against.{never, unit_against, units_against, against, types_against, against_each}
+use Rattle.um_equal_types.specs.Steps.{Step, row_at, wrong_shape_at, type_at, types_at}
+use Rattle.um_equal_types.specs.Against.{never, unit_against, units_against, against, types_against, against_each}
 use Rattle.um_slots.specs.Holes.{unit_holes, note_holes, notes_holes, Callee, known_by, itself, nobody, callee_holes, record_holes, expr_holes}
 use Rattle.um_rows.specs.Rules.{Derived, AllDerived, after, formed, asks_bool, asks_list, item, asks_zero, number_rule, local_rule, call_rule, negate_rule, not_rule, pown_rule, truths_rule, units_rule, arith_rule, compare_rule, if_rule, split_rule, nil_rule, list_rule, cons_rule, record_rule, declared_rule, found_rule, field_rule}
 use Rattle.um_rows.specs.Derivation.{first_units, offered, derive, derive_all}

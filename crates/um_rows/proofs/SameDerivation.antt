@@ -12,8 +12,8 @@ use Rattle.um_tree.specs.Scheme.{unit_variables}
 use Rattle.um_elim.proofs.Cases.{on_test}
 use Rattle.um_elim.proofs.FirstOccurrences.{member}
 use Rattle.um_elim.proofs.RenamedUnits.{unit_alike}
-use Rattle.um_rows.specs.Against.{against}
-use Rattle.um_rows.specs.Steps.{types_at}
+use Rattle.um_equal_types.specs.Against.{against}
+use Rattle.um_equal_types.specs.Steps.{types_at}
 use Rattle.um_slots.specs.Holes.{unit_holes, note_holes, notes_holes, Callee, known_by, itself, nobody, callee_holes, record_holes, expr_holes}
 use Rattle.um_rows.specs.Rules.{Derived, after, formed, item, number_rule, call_rule, negate_rule, not_rule, pown_rule, truths_rule, arith_rule, compare_rule, if_rule, split_rule, nil_rule, list_rule, cons_rule, record_rule, field_rule}
 use Rattle.um_rows.specs.Derivation.{first_units, offered, derive, derive_all}

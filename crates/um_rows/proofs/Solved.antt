@@ -14,7 +14,7 @@ use Rattle.um_slots.specs.Slots.{slot, slot_unit, function_slots, slot_count}
 use Rattle.um_rows.specs.Equations.{slot_equations}
 use Rattle.um_rows.specs.Solutions.{slot_signature, IsSolution, IsSolved, IsRigid, IsRigidlySolved, HaveSchemes}
 use Rattle.um_rows.specs.Laws.{LooseTypingsAreSolutions, RigidTypingsAreSolutions, RowsHoldSlots, TypesHoldSlots}
-use Rattle.um_rows.proofs.HeldSteps.{Holds-solves, Solves-holds}
+use Rattle.um_equal_types.proofs.HeldSteps.{Holds-solves, Solves-holds}
 use Rattle.um_rows.proofs.Variables.{SignatureBelow, StepsBelow, signature_put_alike_below, Holds_alike_below}
 use Rattle.um_rows.proofs.VariableLists.{signature_below_from, signature_all, rows_all}
 use Rattle.um_rows.proofs.Below.{equations_below}

@@ -13,8 +13,8 @@ use Rattle.um_elim.specs.Solution.{own_variables, rigid_units, parameter_rows}
 use Rattle.um_elim.proofs.Rows.{solved_is_most_general, refused_is_unsatisfiable, length-solved, exactly-more, unsolvable-more}
 use Rattle.um_elim.proofs.Slots.{length-own, length-rigid, own_is_general, rigid_is_general}
 use Rattle.um_elim.proofs.VariablesKept.{solved_below, all_own_below, all_rigid_below}
-use Rattle.um_rows.specs.declared.row.Row.{Row}
-use Rattle.um_rows.specs.Steps.{units_of}
+use Rattle.um_equal_types.specs.declared.row.Row.{Row}
+use Rattle.um_equal_types.specs.Steps.{units_of}
 use Rattle.um_rows.specs.FirstUnsolvable.{IsFirstUnsolvable, Solving, solved, unsolved, out_of_range, after_row, solve, rows_up_to}
 
 units_of-append : (a b : List Row) → units_of (a ++ b) ≡ units_of a ++ units_of b

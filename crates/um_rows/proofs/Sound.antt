@@ -11,13 +11,14 @@ use Rattle.um_tree.specs.ExprTree.{ExprTree, ExprTrees, truth, number, local, ca
 use Rattle.um_tree.specs.ProgramTree.{RecordTree, Signature}
 use Rattle.um_tree.specs.Typing.{put, put_signature, UnitMatches, UnitsMatch, Matches, LiteralUnit, Typed, AllTyped}
 use Rattle.um_rows.proofs.PutLiterals.{put_literal, put_literals, all_put_literals}
-use Rattle.um_rows.specs.Against.{types_against}
+use Rattle.um_equal_types.specs.Against.{types_against}
 use Rattle.um_slots.specs.Holes.{unit_holes, Callee, known_by, itself, nobody, callee_holes, record_holes, expr_holes}
 use Rattle.um_rows.specs.Rules.{Derived, after, item, number_rule, call_rule, negate_rule, not_rule, pown_rule, truths_rule, arith_rule, compare_rule, if_rule, split_rule, list_rule, cons_rule, record_rule, field_rule}
 use Rattle.um_rows.specs.Derivation.{first_units, offered, derive, derive_all}
 use Rattle.um_slots.specs.Noted.{noted_unit, noted_units, noted_type}
-use Rattle.um_rows.proofs.HeldSteps.{Holds, Holds-front, Holds-back, Holds-formed, mismatch_fails}
-use Rattle.um_rows.proofs.TypesAgainst.{types_same_from_rows}
+use Rattle.um_equal_types.proofs.HeldSteps.{Holds, Holds-front, Holds-back}
+use Rattle.um_rows.proofs.HeldNodes.{Holds-formed, mismatch_fails}
+use Rattle.um_equal_types.proofs.TypesAgainst.{types_same_from_rows}
 use Rattle.um_elim.proofs.RenamedUnits.{put-put, puts-put}
 use Rattle.um_rows.proofs.PutTypes.{length-first_units}
 use Rattle.um_rows.proofs.SoundRules.{zero_sound, local_sound, negate_sound, not_sound, pown_sound, truths_sound, arith_sound, compare_sound, if_sound, split_sound, nil_sound, list_sound, cons_sound, record_sound, field_sound}

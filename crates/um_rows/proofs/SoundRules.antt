@@ -16,10 +16,11 @@ use Rattle.um_tree.specs.TypeTree.{TypeTree, bool_type, num_type, list_type, rec
 use Rattle.um_tree.specs.ProgramTree.{RecordTree}
 use Rattle.um_tree.specs.Typing.{put, unit_at, ArithUnit, EachIs, field_types, IsRecordAt}
 use Rattle.um_elim.proofs.Cases.{on_test}
-use Rattle.um_rows.specs.Against.{never, against, types_against, against_each}
+use Rattle.um_equal_types.specs.Against.{never, against, types_against, against_each}
 use Rattle.um_rows.specs.Rules.{asks_bool, asks_list, item, asks_zero, number_rule, local_rule, negate_rule, not_rule, pown_rule, truths_rule, units_rule, arith_rule, compare_rule, if_rule, split_rule, nil_rule, list_rule, cons_rule, record_rule, declared_rule, found_rule, field_rule}
-use Rattle.um_rows.proofs.HeldSteps.{Holds, Holds-front, Holds-back, Holds-formed, never_solved, mismatch_fails, same_from_row}
-use Rattle.um_rows.proofs.TypesAgainst.{same_from_rows, types_same_from_rows, each_same_from_rows}
+use Rattle.um_equal_types.proofs.HeldSteps.{Holds, Holds-front, Holds-back, never_solved, same_from_row}
+use Rattle.um_rows.proofs.HeldNodes.{Holds-formed, mismatch_fails}
+use Rattle.um_equal_types.proofs.TypesAgainst.{same_from_rows, types_same_from_rows, each_same_from_rows}
 use Rattle.um_rows.proofs.PutTypes.{put-field, put-fields}
 
 module _ (v : ℕ → PowerMap) (at : ℕ) where

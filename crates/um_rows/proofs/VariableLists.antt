@@ -12,7 +12,7 @@ use Rattle.um_tree.specs.ProgramTree.{Signature}
 use Rattle.um_tree.specs.Scheme.{unit_variables, type_variables, variables, signature_types}
 use Rattle.um_elim.proofs.GrowingOrder.{All-front, All-back, All-member, All-from_below}
 use Rattle.um_elim.proofs.RenamedUnits.{held-member}
-use Rattle.um_rows.specs.Steps.{Step, row_at, wrong_shape_at, type_at, row_units}
+use Rattle.um_equal_types.specs.Steps.{Step, row_at, wrong_shape_at, type_at, row_units}
 use Rattle.um_rows.proofs.Variables.{TypeBelow, TypesBelow, SignatureBelow, StepsBelow}
 
 module _ (n : ℕ) where

@@ -11,9 +11,9 @@ use Rattle.um_tree.specs.TypeTree.{TypeTree, bool_type, num_type, list_type, rec
 use Rattle.um_tree.specs.ProgramTree.{Signature}
 use Rattle.um_tree.specs.Typing.{put, put_signature}
 use Rattle.um_tree.specs.Laws.{TypeHas}
-use Rattle.um_rows.specs.Steps.{Step, row_at, wrong_shape_at, type_at}
+use Rattle.um_equal_types.specs.Steps.{Step, row_at, wrong_shape_at, type_at}
 use Rattle.um_slots.specs.Holes.{Callee, known_by, itself, nobody}
-use Rattle.um_rows.proofs.HeldSteps.{Holds}
+use Rattle.um_equal_types.proofs.HeldSteps.{Holds}
 
 -- each variable of the type is below n
 abbrev pub TypeBelow : ℕ → TypeTree → Type 0

@@ -5,13 +5,13 @@ use Rattle.um_units.specs.PowerMap.{PowerMap}
 use Rattle.um_tree.specs.TypeTree.{TypeTree, bool_type}
 use Rattle.um_tree.specs.ExprTree.{ExprTree, ExprTrees, truth, number, local, call, negate, not_expr, pown, arith as arith_tree, compare, both, either, if, bind, split, nil, list_expr, cons, record_expr, field, none, more}
 use Rattle.um_tree.specs.ProgramTree.{RecordTree, Signature}
-use Rattle.um_rows.specs.declared.row.Row.{Row}
-use Rattle.um_rows.specs.Steps.{Step, first_past, rows_of}
+use Rattle.um_equal_types.specs.declared.row.Row.{Row}
+use Rattle.um_equal_types.specs.Steps.{Step, first_past, rows_of}
 use Rattle.um_slots.specs.Holes.{Callee, callee_holes, record_holes, expr_holes, exprs_holes}
 use Rattle.um_rows.specs.Rules.{Derived, AllDerived, after, formed, item, local_rule, call_rule, negate_rule, not_rule, pown_rule, truths_rule, arith_rule, compare_rule, if_rule, split_rule, list_rule, cons_rule, record_rule, field_rule}
 use Rattle.um_rows.specs.Derivation.{first_units, offered, derive, derive_all}
 use Rattle.um_rows.specs.Walk.{Walked, AllWalked, PairWalked, then, unless_past, node, pair, pair_node, walk, walk_all}
-use Rattle.um_rows.proofs.PushLaws.{first_of, first_past-append, rows_of-append}
+use Rattle.um_equal_types.proofs.PushLaws.{first_of, first_past-append, rows_of-append}
 
 -- ---- a node behind its parts
 abbrev pub all_unless_past : Option ℕ → AllWalked → Result AllWalked ℕ

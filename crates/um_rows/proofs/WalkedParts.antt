@@ -11,9 +11,9 @@ use Rattle.um_tree.specs.ProgramTree.{record_tree}
 use Rattle.um_tree.specs.ExprTree.{ExprTree, expr_tree, in_order, bind}
 use Rattle.um_slots.specs.declared.context.Context.{Context}
 use Rattle.um_rows.specs.declared.progress.Progress.{Progress}
-use Rattle.um_rows.specs.declared.row.Row.{Row}
-use Rattle.um_rows.specs.declared.row.RowStop.{RowStop}
-use Rattle.um_rows.specs.declared.row.RowStop.TheVariants as stop
+use Rattle.um_equal_types.specs.declared.row.Row.{Row}
+use Rattle.um_equal_types.specs.declared.row.RowStop.{RowStop}
+use Rattle.um_equal_types.specs.declared.row.RowStop.TheVariants as stop
 use Rattle.um_rows.specs.NodeTypes.{TypedNode}
 use Rattle.um_rows.specs.Rules.{item, formed}
 use Rattle.um_rows.specs.Walk.{Walked, AllWalked, PairWalked, then, unless_past, node, pair}

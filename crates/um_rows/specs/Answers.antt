@@ -11,10 +11,10 @@ use Rattle.um_tree.specs.Typing.{put_signature, IsLooseTypingOf, IsRigidTypingOf
 use Rattle.um_tree.specs.InputType.{IsResultOfCall}
 use Rattle.um_tree.specs.Scheme.{variables, signature_types}
 use Rattle.um_slots.specs.declared.definition.Definition.{Definition}
-use Rattle.um_rows.specs.declared.row.Rows.{Rows}
-use Rattle.um_rows.specs.declared.row.RowStop.{RowStop}
-use Rattle.um_rows.specs.declared.row.RowStop.TheVariants as stop
-use Rattle.um_rows.specs.Steps.{rows_of, units_of, first_past}
+use Rattle.um_equal_types.specs.declared.row.Rows.{Rows}
+use Rattle.um_equal_types.specs.declared.row.RowStop.{RowStop}
+use Rattle.um_equal_types.specs.declared.row.RowStop.TheVariants as stop
+use Rattle.um_equal_types.specs.Steps.{rows_of, units_of, first_past}
 use Rattle.um_slots.specs.Slots.{slot_count}
 use Rattle.um_rows.specs.Equations.{slot_equations}
 use Rattle.um_rows.specs.Solutions.{IsRigid, HaveSchemes}

@@ -11,12 +11,12 @@ use Rattle.um_slots.specs.declared.context.Context.{Context}
 use Rattle.um_slots.specs.declared.definition.Definition.{Definition}
 use Rattle.um_slots.specs.Holes.{Callee, expr_holes, exprs_holes}
 use Rattle.um_slots.specs.Callees.{callee_of}
-use Rattle.um_rows.specs.declared.row.Row.{Row}
-use Rattle.um_rows.specs.declared.row.Rows.{Rows}
+use Rattle.um_equal_types.specs.declared.row.Row.{Row}
+use Rattle.um_equal_types.specs.declared.row.Rows.{Rows}
 use Rattle.um_rows.specs.declared.walker.Walk.{Walk as Walker}
 use Rattle.um_rows.specs.declared.progress.State.{State}
-use Rattle.um_rows.specs.Steps.{Step, rows_of, first_past}
-use Rattle.um_rows.specs.Against.{against}
+use Rattle.um_equal_types.specs.Steps.{Step, rows_of, first_past}
+use Rattle.um_equal_types.specs.Against.{against}
 use Rattle.um_rows.specs.Rules.{Derived}
 use Rattle.um_rows.specs.Derivation.{offered, derive}
 use Rattle.um_rows.specs.Walk.{Walked, AllWalked, PairWalked, pair, walk, walk_all}

@@ -9,8 +9,8 @@ use Rattle.um_slots.specs.Callees.{callee, head_holes}
 use Rattle.um_slots.specs.Keys.{hole, name}
 use Rattle.um_slots.specs.Slots.{function_slots, slot_unit}
 use Rattle.um_slots.specs.Noted.{noted_type, noted_types, noted_result}
-use Rattle.um_rows.specs.Steps.{Step, types_at}
-use Rattle.um_rows.specs.Against.{against}
+use Rattle.um_equal_types.specs.Steps.{Step, types_at}
+use Rattle.um_equal_types.specs.Against.{against}
 use Rattle.um_rows.specs.Derivation.{derive}
 
 -- ---- the equations

@@ -5,8 +5,8 @@ use Rattle.std.specs.Prelude.{◌≡◌, ℕ, suc, List, [], ◌∷◌, ◌++◌
 use Rattle.um_units.specs.PowerMap.{PowerMap}
 use Rattle.um_units.specs.Solutions.{IsSolvable}
 use Rattle.um_elim.specs.Elimination.{Elimination, Solved, NoSolution, Range, eliminate}
-use Rattle.um_rows.specs.declared.row.Row.{Row}
-use Rattle.um_rows.specs.Steps.{units_of}
+use Rattle.um_equal_types.specs.declared.row.Row.{Row}
+use Rattle.um_equal_types.specs.Steps.{units_of}
 
 -- row k, counted from 0, is the one, and it stands at this place: the given equations and the rows before it have a
 -- joint solution, and with it they have none. If each unit parameter is a unit of its own, the given equations say so

@@ -11,7 +11,7 @@ use Rattle.um_tree.specs.ExprTree.{none, more}
 use Rattle.um_tree.specs.ProgramTree.{RecordTree, Signature, record_tree}
 use Rattle.um_slots.specs.Holes.{Callee, callee_holes, record_holes}
 use Rattle.um_slots.specs.declared.context.Context.{Context}
-use Rattle.um_rows.specs.declared.row.Row.{Row}
+use Rattle.um_equal_types.specs.declared.row.Row.{Row}
 use Rattle.um_rows.specs.declared.walker.Walk.{Walk as Walker}
 use Rattle.um_rows.specs.declared.progress.State.{State}
 use Rattle.um_rows.specs.NodeTypes.{TypedNode, typed_node}

@@ -13,7 +13,7 @@ use Rattle.um_tree.specs.Laws.{LiteralsAreClosed}
 use Rattle.um_tree.specs.Shapes.{ShapeSignature, FunctionShape}
 use Rattle.um_tree.specs.Scheme.{IsPrincipal, IsNumberedScheme, variables, signature_types}
 use Rattle.um_elim.specs.Solution.{parameter_rows}
-use Rattle.um_rows.specs.Steps.{rows_of, units_of}
+use Rattle.um_equal_types.specs.Steps.{rows_of, units_of}
 use Rattle.um_slots.specs.Slots.{slot_count}
 use Rattle.um_rows.specs.Equations.{slot_equations}
 use Rattle.um_rows.specs.Solutions.{function_rows, slot_signature, IsSolved, IsRigidlySolved, HaveSchemes}

@@ -1,7 +1,5 @@
--- What a reader must trust, in reading order: rows, the rules of nodes, the equations of a function, solutions, what a
+-- What a reader must trust, in reading order: the rules of nodes, the equations of a function, solutions, what a
 -- function is answered, the types of its nodes.
-pub mod Steps
-pub mod Against
 pub mod Rules
 pub mod Derivation
 pub mod Equations
@@ -15,11 +13,9 @@ pub mod Answers
 -- What the definitions come to: statements, each proved as the contract of a function of src/laws.rt.
 pub mod Laws
 -- What mirrors the code: rows pushed for steps, the derivation as it is walked.
-pub mod Pushed
 pub mod Operations
 pub mod Walk
 pub mod Reached
-pub mod SlotStops
 pub mod Closed
 pub mod Body
 pub mod Kept

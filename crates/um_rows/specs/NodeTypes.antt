@@ -11,7 +11,7 @@ use Rattle.um_slots.specs.Slots.{function_slots, slot_unit}
 use Rattle.um_slots.specs.Noted.{noted_types}
 use Rattle.um_rows.specs.declared.nodes.NodeType.{NodeType}
 use Rattle.um_rows.specs.declared.nodes.NodeTypes.{NodeTypes}
-use Rattle.um_rows.specs.Steps.{Step, row_at, wrong_shape_at, type_at}
+use Rattle.um_equal_types.specs.Steps.{Step, row_at, wrong_shape_at, type_at}
 use Rattle.um_rows.specs.Rules.{Derived}
 use Rattle.um_rows.specs.Derivation.{derive}
 use Rattle.um_rows.specs.Equations.{own_signature}

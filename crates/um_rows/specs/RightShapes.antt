@@ -5,7 +5,7 @@ use Rattle.um_tree.specs.TypeTree.{TypeTree, bool_type, num_type, list_type, rec
 use Rattle.um_tree.specs.TypeTree.{num_shape, list_shape, record_shape}
 use Rattle.um_tree.specs.ProgramTree.{RecordTree}
 use Rattle.um_tree.specs.Formed.{TakesUnits}
-use Rattle.um_rows.specs.Steps.{Step, row_at, wrong_shape_at, type_at}
+use Rattle.um_equal_types.specs.Steps.{Step, row_at, wrong_shape_at, type_at}
 
 -- no step stands for a wrong shape
 abbrev pub HaveRightShapes : List Step → Type 0

@@ -15,8 +15,8 @@ use Rattle.um_tree.specs.declared.expression.Arith.TheVariants.{Add, Sub, Mul, D
 use Rattle.um_tree.specs.TypeTree.{TypeTree, bool_type, num_type, list_type, record_type}
 use Rattle.um_tree.specs.ProgramTree.{RecordTree, Signature}
 use Rattle.um_tree.specs.Typing.{put, unit_at, field_types}
-use Rattle.um_rows.specs.Steps.{Step, type_at}
-use Rattle.um_rows.specs.Against.{never, unit_against, against, types_against, against_each}
+use Rattle.um_equal_types.specs.Steps.{Step, type_at}
+use Rattle.um_equal_types.specs.Against.{never, unit_against, against, types_against, against_each}
 
 -- the type of an expression over slots, and the steps that lead to it
 pub record Derived : Type 0 where

@@ -7,7 +7,7 @@ use Rattle.um_units.specs.Solutions.{IsJointSolution}
 use Rattle.um_tree.specs.ProgramTree.{RecordTree, FunctionTree, ProgramTree, Signature, SchemeTree}
 use Rattle.um_tree.specs.Typing.{put_signature, parameter_unit}
 use Rattle.um_tree.specs.Scheme.{IsPrincipal}
-use Rattle.um_rows.specs.Steps.{row_units}
+use Rattle.um_equal_types.specs.Steps.{row_units}
 use Rattle.um_slots.specs.Slots.{slot_count}
 use Rattle.um_rows.specs.Equations.{slot_equations}
 

@@ -8,8 +8,8 @@ use Rattle.um_tree.specs.ExprTree.{ExprTree, ExprTrees, truth, number, local, ca
 use Rattle.um_tree.specs.ExprTree.{compare, both, either, if, bind, split, nil, list_expr, cons, record_expr, field}
 use Rattle.um_tree.specs.ExprTree.{none, more}
 use Rattle.um_tree.specs.ProgramTree.{RecordTree, Signature}
-use Rattle.um_rows.specs.declared.row.Row.{Row}
-use Rattle.um_rows.specs.Steps.{first_past, rows_of}
+use Rattle.um_equal_types.specs.declared.row.Row.{Row}
+use Rattle.um_equal_types.specs.Steps.{first_past, rows_of}
 use Rattle.um_slots.specs.Holes.{unit_holes, note_holes, Callee, callee_holes, record_holes}
 use Rattle.um_rows.specs.Rules.{Derived, formed, item, number_rule, local_rule, call_rule, negate_rule, not_rule}
 use Rattle.um_rows.specs.Rules.{pown_rule, truths_rule, arith_rule, compare_rule, if_rule, split_rule, nil_rule}

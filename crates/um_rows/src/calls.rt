@@ -10,8 +10,8 @@ ghost use Rattle.um_tree.specs.Typing.{put, put_signature};
 ghost use Rattle.um_elim.specs.Application.{type_fits};
 ghost use Rattle.um_tree.specs.Laws.{TypeHas};
 ghost use Rattle.um_slots.specs.SlotUnits.{AreVariables};
-ghost use Rattle.um_rows.specs.Against.{types_against as types_against_steps};
-ghost use Rattle.um_rows.specs.Pushed.{ArePushed};
+ghost use Rattle.um_equal_types.specs.Against.{types_against as types_against_steps};
+ghost use Rattle.um_equal_types.specs.Pushed.{ArePushed};
 ghost use Rattle.um_slots.specs.Holes.{callee_holes};
 ghost use Rattle.um_slots.specs.Callees.{callee_of};
 ghost use Rattle.um_rows.specs.Rules.{call_rule};
@@ -20,12 +20,11 @@ ghost use Rattle.um_rows.specs.Reached.{IsReached};
 ghost use Rattle.um_rows.specs.Body.{noted_signature, called, offer};
 ghost use Rattle.um_rows.specs.Closed.{IsClosedScheme, AreClosedBefore};
 
-use crate::against::{against, push_never, types_against};
 use crate::progress::Progress;
-use crate::row::{Row, RowStop};
 use crate::rules::mismatch;
 use crate::walker::Walk;
 use std::alloc::Global;
+use um_equal_types::{Row, RowStop, against, push_never, types_against};
 use um_slots::{Context, callee_units, copied, renamed};
 use um_tree::{Scheme, Ty};
 use um_units::Unit;
@@ -39,7 +38,7 @@ pub(crate) fn hole_units(context: &Context, first: usize, many: usize) -> &[Unit
 }
 
 /// Pushes the rows of parameters, whose variables are renamed, against arguments.
-#[tactic(auto, using(crate::proofs::PushLaws::stops_front))]
+#[tactic(auto, using(um_equal_types::proofs::PushLaws::stops_front))]
 fn arguments_against(
     alloc: Global,
     at: u32,

@@ -4,20 +4,19 @@ ghost use Rattle.std.specs.Prelude.{◌≡◌, ◌+◌, ◌≤◌, ◌&&◌, is_
 ghost use Rattle.um_tree.specs.TypeTree.{type_tree};
 ghost use Rattle.um_tree.specs.ExprTree.{expr_tree};
 ghost use Rattle.um_tree.specs.ProgramTree.{record_tree, scheme_tree, result_tree};
-ghost use Rattle.um_rows.specs.Steps.{first_past};
-ghost use Rattle.um_rows.specs.Pushed.{ArePushed, StopsPast};
+ghost use Rattle.um_equal_types.specs.Steps.{first_past};
+ghost use Rattle.um_equal_types.specs.Pushed.{ArePushed, StopsPast};
 ghost use Rattle.um_rows.specs.Closed.{AreClosedBefore, IsClosedRecord};
 ghost use Rattle.um_rows.specs.Body.{AreBodyRows, noted_rows, holes_in, walk_derived, walk_steps};
 ghost use Rattle.um_rows.specs.Answers.{defined, AreEquations, StopsFor};
 ghost use Rattle.um_rows.specs.NodeTypes.{typed_nodes, derived_nodes, function_nodes};
 
-use crate::against::against;
 use crate::nodes::{NodeTypes, TypedRows};
 use crate::progress::{Progress, State};
-use crate::row::{Row, RowList, RowStop, Rows};
 use crate::walk::derive;
 use crate::walker::Walk;
 use std::alloc::Global;
+use um_equal_types::{Row, RowList, RowStop, Rows, against};
 use um_slots::{
     Definition, Environment, Numbering, Slots, context_of, copied_types, name_units, number_slots,
 };

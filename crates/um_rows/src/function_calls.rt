@@ -7,8 +7,8 @@ ghost use Rattle.um_tree.specs.Formed.{AreFormedInputs};
 ghost use Rattle.um_rows.specs.Answers.{AreCallRowsOf, CallRowsStopFor, HaveVariablesBelow, ResultsAreSolutionsOf};
 
 use crate::equations::equations;
-use crate::row::{RowStop, Rows};
 use std::alloc::Global;
+use um_equal_types::{RowStop, Rows};
 use um_shape::Shaped;
 use um_slots::{Definition, call_of, exprs_of, param_shapes};
 use um_tree::{Inputs, Schemes};

@@ -7,8 +7,8 @@ ghost use Rattle.um_rows.specs.NodeTypes.{AreNodesOf};
 
 use crate::equations::{equations, typed_equations};
 use crate::nodes::TypedRows;
-use crate::row::{RowStop, Rows};
 use std::alloc::Global;
+use um_equal_types::{RowStop, Rows};
 use um_shape::Shaped;
 use um_slots::Definition;
 use um_tree::Schemes;

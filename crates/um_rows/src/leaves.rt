@@ -11,9 +11,9 @@ ghost use Rattle.um_rows.specs.Walk.{node};
 ghost use Rattle.um_rows.specs.Reached.{IsReached};
 
 use crate::progress::Progress;
-use crate::row::RowStop;
 use crate::rules;
 use std::alloc::Global;
+use um_equal_types::RowStop;
 use um_frac::Frac;
 use um_slots::{Context, note_holes, noted_type, noted_unit, unit_holes};
 use um_tree::{Note, Ty, UnitNote};

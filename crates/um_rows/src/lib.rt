@@ -11,7 +11,6 @@
 //! ```
 #![tactic(auto)]
 
-mod against;
 mod calls;
 mod equations;
 mod function_calls;
@@ -22,7 +21,6 @@ mod nodes;
 mod operations;
 mod progress;
 mod records;
-mod row;
 mod rules;
 mod value;
 mod walk;
@@ -31,4 +29,4 @@ mod walker;
 pub use function_calls::call_rows;
 pub use function_rows::{rows, typed_rows};
 pub use nodes::{NodeType, NodeTypes, TypedRows};
-pub use row::{Row, RowList, RowStop, Rows};
+pub use um_equal_types::{Row, RowList, RowStop, Rows};

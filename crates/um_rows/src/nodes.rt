@@ -4,10 +4,10 @@ ghost use Rattle.std.specs.Prelude.{◌≡◌, ◌++◌, IfOk, IfErr, OnOk, map,
 ghost use Rattle.um_tree.specs.TypeTree.{type_tree};
 ghost use Rattle.um_rows.specs.NodeTypes.{typed_node};
 ghost use Rattle.um_rows.specs.Kept.{kept};
-ghost use Rattle.um_rows.specs.declared.row.RowStop.TheVariants.{NoMemory};
+ghost use Rattle.um_equal_types.specs.declared.row.RowStop.TheVariants.{NoMemory};
 
-use crate::row::{RowStop, Rows};
 use std::alloc::Global;
+use um_equal_types::{RowStop, Rows};
 use um_slots::copied;
 use um_tree::Ty;
 

@@ -9,10 +9,10 @@ ghost use Rattle.um_rows.specs.Walk.{node};
 ghost use Rattle.um_rows.specs.Reached.{IsReached};
 
 use crate::progress::{Pair, Progress};
-use crate::row::RowStop;
 use crate::walker::Walk;
 use crate::{records as values, rules};
 use std::alloc::Global;
+use um_equal_types::RowStop;
 use um_tree::{Arith, Ty};
 
 /// The operations of one part.

@@ -1,7 +1,7 @@
 //! Where a walk over a body stands.
 
 use crate::nodes::NodeType;
-use crate::row::Row;
+use um_equal_types::Row;
 use um_tree::Ty;
 
 /// The rows so far, and the number of holes so far.

@@ -10,8 +10,8 @@ ghost use Rattle.um_tree.specs.Typing.{put, unit_at, field_types};
 ghost use Rattle.um_tree.specs.Laws.{TypeHas};
 ghost use Rattle.um_elim.specs.Application.{type_fits};
 ghost use Rattle.um_slots.specs.SlotUnits.{AreVariables};
-ghost use Rattle.um_rows.specs.Against.{types_against as types_against_steps};
-ghost use Rattle.um_rows.specs.Pushed.{ArePushed};
+ghost use Rattle.um_equal_types.specs.Against.{types_against as types_against_steps};
+ghost use Rattle.um_equal_types.specs.Pushed.{ArePushed};
 ghost use Rattle.um_rows.specs.Rules.{record_rule, declared_rule, field_rule, found_rule};
 ghost use Rattle.um_slots.specs.Holes.{record_holes};
 ghost use Rattle.um_rows.specs.Derivation.{first_units};
@@ -19,21 +19,20 @@ ghost use Rattle.um_rows.specs.Walk.{node};
 ghost use Rattle.um_rows.specs.Reached.{IsReached};
 ghost use Rattle.um_rows.specs.Closed.{declared_types, IsClosedRecord};
 
-use crate::against::{against, push_never};
 use crate::calls::hole_units;
 use crate::progress::Progress;
-use crate::row::{Row, RowStop};
 use crate::rules::mismatch;
 use crate::value::Value;
 use crate::walker::Walk;
 use std::alloc::Global;
 use um_elim::put_in_type;
+use um_equal_types::{Row, RowStop, against, push_never};
 use um_slots::{copied_units, renamed};
 use um_tree::{FieldDecl, Record, Ty};
 use um_units::{Unit, UnitStop};
 
 /// Pushes the rows of fields' types, whose variables are renamed, against parts.
-#[tactic(auto, using(crate::proofs::PushLaws::stops_front))]
+#[tactic(auto, using(um_equal_types::proofs::PushLaws::stops_front))]
 fn fields_against(
     alloc: Global,
     at: u32,

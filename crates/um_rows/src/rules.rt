@@ -7,14 +7,13 @@ ghost use Rattle.um_elim.specs.Application.{type_fits};
 ghost use Rattle.um_rows.specs.Rules.{formed, mismatch as mismatched, local_rule, negate_rule, not_rule, pown_rule};
 ghost use Rattle.um_rows.specs.Rules.{truths_rule, units_rule, arith_rule, compare_rule, if_rule, split_rule, nil_rule};
 ghost use Rattle.um_rows.specs.Rules.{list_rule, cons_rule, number_rule, asks_bool, asks_list};
-ghost use Rattle.um_rows.specs.Pushed.{ArePushed};
+ghost use Rattle.um_equal_types.specs.Pushed.{ArePushed};
 ghost use Rattle.um_rows.specs.Walk.{node};
 ghost use Rattle.um_rows.specs.Reached.{IsReached};
 
-use crate::against::{against, against_each, push_never, push_quotient};
 use crate::progress::Progress;
-use crate::row::{Row, RowStop};
 use std::alloc::Global;
+use um_equal_types::{Row, RowStop, against, against_each, push_never, push_quotient};
 use um_frac::Frac;
 use um_slots::copied;
 use um_tree::{Arith, Ty, UnitNote};
@@ -121,7 +120,7 @@ pub(crate) fn pown(
 }
 
 /// `&&` and `||`
-#[tactic(auto, using(crate::proofs::NodeLaws::node_formed, crate::proofs::NodeLaws::node_stops, crate::proofs::PushLaws::stops_front, crate::proofs::PushLaws::stops_back, crate::proofs::PushLaws::behind_then))]
+#[tactic(auto, using(crate::proofs::NodeLaws::node_formed, crate::proofs::NodeLaws::node_stops, um_equal_types::proofs::PushLaws::stops_front, um_equal_types::proofs::PushLaws::stops_back, um_equal_types::proofs::PushLaws::behind_then))]
 pub(crate) fn truths(
     alloc: Global,
     at: u32,
@@ -192,7 +191,7 @@ pub(crate) fn arith(
 }
 
 /// A comparison.
-#[tactic(auto, using(crate::proofs::NodeLaws::node_formed, crate::proofs::NodeLaws::node_stops, crate::proofs::PushLaws::stops_front, crate::proofs::PushLaws::stops_back, crate::proofs::PushLaws::behind_then))]
+#[tactic(auto, using(crate::proofs::NodeLaws::node_formed, crate::proofs::NodeLaws::node_stops, um_equal_types::proofs::PushLaws::stops_front, um_equal_types::proofs::PushLaws::stops_back, um_equal_types::proofs::PushLaws::behind_then))]
 pub(crate) fn compare(
     alloc: Global,
     at: u32,
@@ -214,7 +213,7 @@ pub(crate) fn compare(
 }
 
 /// `if`: the first arm against the second.
-#[tactic(auto, using(crate::proofs::NodeLaws::node_formed, crate::proofs::NodeLaws::node_stops, crate::proofs::PushLaws::stops_front, crate::proofs::PushLaws::stops_back, crate::proofs::PushLaws::behind_then))]
+#[tactic(auto, using(crate::proofs::NodeLaws::node_formed, crate::proofs::NodeLaws::node_stops, um_equal_types::proofs::PushLaws::stops_front, um_equal_types::proofs::PushLaws::stops_back, um_equal_types::proofs::PushLaws::behind_then))]
 pub(crate) fn condition(
     alloc: Global,
     at: u32,
@@ -234,7 +233,7 @@ pub(crate) fn condition(
 }
 
 /// `match`: the empty arm against the full one.
-#[tactic(auto, using(crate::proofs::NodeLaws::node_formed, crate::proofs::NodeLaws::node_stops, crate::proofs::PushLaws::stops_front, crate::proofs::PushLaws::stops_back, crate::proofs::PushLaws::behind_then))]
+#[tactic(auto, using(crate::proofs::NodeLaws::node_formed, crate::proofs::NodeLaws::node_stops, um_equal_types::proofs::PushLaws::stops_front, um_equal_types::proofs::PushLaws::stops_back, um_equal_types::proofs::PushLaws::behind_then))]
 pub(crate) fn split(
     alloc: Global,
     at: u32,
@@ -254,7 +253,7 @@ pub(crate) fn split(
 }
 
 /// The empty list of a written type.
-#[tactic(auto, using(crate::proofs::NodeLaws::node_formed, crate::proofs::NodeLaws::node_stops, crate::proofs::PushLaws::stops_front, crate::proofs::PushLaws::stops_back, crate::proofs::PushLaws::behind_then))]
+#[tactic(auto, using(crate::proofs::NodeLaws::node_formed, crate::proofs::NodeLaws::node_stops, um_equal_types::proofs::PushLaws::stops_front, um_equal_types::proofs::PushLaws::stops_back, um_equal_types::proofs::PushLaws::behind_then))]
 pub(crate) fn nil(alloc: Global, at: u32, ty: Ty, progress: &mut Progress) -> Result<Ty, RowStop>
     requires fits { IsTrue (type_fits (type_tree ty)) }
     ensures reached { IsReached (node progress.old.rows.items progress.old.holes (nil_rule at (type_tree ty)))
@@ -266,7 +265,7 @@ pub(crate) fn nil(alloc: Global, at: u32, ty: Ty, progress: &mut Progress) -> Re
 }
 
 /// `::`: the head against the tail's item.
-#[tactic(auto, using(crate::proofs::NodeLaws::node_formed, crate::proofs::NodeLaws::node_stops, crate::proofs::PushLaws::stops_front, crate::proofs::PushLaws::stops_back, crate::proofs::PushLaws::behind_then))]
+#[tactic(auto, using(crate::proofs::NodeLaws::node_formed, crate::proofs::NodeLaws::node_stops, um_equal_types::proofs::PushLaws::stops_front, um_equal_types::proofs::PushLaws::stops_back, um_equal_types::proofs::PushLaws::behind_then))]
 pub(crate) fn cons(
     alloc: Global,
     at: u32,

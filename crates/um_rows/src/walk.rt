@@ -16,10 +16,10 @@ ghost use Rattle.um_rows.specs.Kept.{body_kept, kept_from, parts_kept_from, pair
 use crate::nodes::keep;
 use crate::operations::{Binary, Unary, binary_node, unary_node};
 use crate::progress::{Pair, State};
-use crate::row::RowStop;
 use crate::walker::Walk;
 use crate::{calls, leaves, records as values, rules};
 use std::alloc::{AllocError, Global};
+use um_equal_types::RowStop;
 use um_slots::{copied, record_units};
 use um_tree::{Expr, Node, Ty};
 

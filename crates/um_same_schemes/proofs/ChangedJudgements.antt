@@ -19,8 +19,8 @@ use Rattle.um_slots.specs.Callees.{callee, head_holes}
 use Rattle.um_slots.specs.Keys.{hole, name}
 use Rattle.um_slots.specs.Slots.{slot_order, slot_unit, function_slots, slot_count}
 use Rattle.um_slots.specs.Noted.{noted_type, noted_types, noted_result}
-use Rattle.um_rows.specs.declared.row.Row.{Row}
-use Rattle.um_rows.specs.Steps.{Step, row_at, wrong_shape_at, type_at, rows_of, first_past}
+use Rattle.um_equal_types.specs.declared.row.Row.{Row}
+use Rattle.um_equal_types.specs.Steps.{Step, row_at, wrong_shape_at, type_at, rows_of, first_past}
 use Rattle.um_rows.specs.Derivation.{derive}
 use Rattle.um_rows.specs.Equations.{Equations, result_rows, own_signature, head_steps, equations, slot_equations}
 use Rattle.um_rows.specs.FirstUnsolvable.{Solving, solved, unsolved, out_of_range, after_row, solve, rows_up_to}

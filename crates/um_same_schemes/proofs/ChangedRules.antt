@@ -12,7 +12,7 @@ use Rattle.um_tree.specs.declared.expression.Arith.TheVariants.{Add, Sub, Mul, D
 use Rattle.um_tree.specs.TypeTree.{TypeTree, bool_type, num_type, list_type, record_type}
 use Rattle.um_tree.specs.ProgramTree.{RecordTree, Signature}
 use Rattle.um_tree.specs.Typing.{put, unit_at, field_types}
-use Rattle.um_rows.specs.Against.{against, types_against, against_each, never}
+use Rattle.um_equal_types.specs.Against.{against, types_against, against_each, never}
 use Rattle.um_rows.specs.Rules.{asks_bool, asks_list, asks_zero, number_rule, local_rule, call_rule, negate_rule, not_rule, pown_rule, truths_rule, arith_rule, compare_rule, if_rule, split_rule, nil_rule, list_rule, cons_rule, record_rule, declared_rule, found_rule, field_rule}
 use Rattle.um_same_schemes.proofs.Changed.{changed_record}
 use Rattle.um_same_schemes.proofs.ChangedSteps.{placed, moved, joined, against_placed, types_placed, each_placed, bool_placed, list_placed, formed_placed}

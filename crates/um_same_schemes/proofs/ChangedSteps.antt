@@ -3,8 +3,8 @@ use Rattle.std.proofs.Common.{◌≡◌, ℕ, ◌==◌, Bool, true, false, cond,
 use Rattle.std.proofs.lemmas.List.{map-append}
 use Rattle.um_units.specs.PowerMap.{PowerMap}
 use Rattle.um_tree.specs.TypeTree.{TypeTree, bool_type, num_type, list_type, record_type}
-use Rattle.um_rows.specs.Steps.{Step, row_at, wrong_shape_at, type_at, types_at}
-use Rattle.um_rows.specs.Against.{never, unit_against, units_against, against, types_against, against_each}
+use Rattle.um_equal_types.specs.Steps.{Step, row_at, wrong_shape_at, type_at, types_at}
+use Rattle.um_equal_types.specs.Against.{never, unit_against, units_against, against, types_against, against_each}
 use Rattle.um_rows.specs.Rules.{Derived, AllDerived, after, formed, asks_bool, asks_list}
 
 abbrev pub placed_step : (ℕ → ℕ) → Step → Step

@@ -5,7 +5,7 @@ use Rattle.um_units.specs.declared.Term.{Term}
 use Rattle.um_units.specs.PowerMap.{PowerMap, product}
 use Rattle.um_tree.specs.TypeTree.{num_type}
 use Rattle.um_tree.specs.ProgramTree.{ProgramTree}
-use Rattle.um_rows.specs.declared.row.Row.{Row}
+use Rattle.um_equal_types.specs.declared.row.Row.{Row}
 use Rattle.um_agree.specs.declared.rule.Rule.TheVariants as asks
 use Rattle.um_agree.specs.Agreements.{Agreement}
 use Rattle.um_unit_reasons.specs.declared.reason.Told.{Told}

@@ -12,8 +12,8 @@ use Rattle.um_tree.specs.Scheme.{type_variables, variables}
 use Rattle.um_tree.specs.ProgramTree.{program_tree}
 use Rattle.um_elim.specs.Solution.{parameter_rows}
 use Rattle.um_elim.proofs.Cases.{on_test}
-use Rattle.um_rows.specs.declared.row.Row.{Row}
-use Rattle.um_rows.specs.Steps.{units_of}
+use Rattle.um_equal_types.specs.declared.row.Row.{Row}
+use Rattle.um_equal_types.specs.Steps.{units_of}
 use Rattle.um_rows.specs.FirstUnsolvable.{rows_up_to}
 use Rattle.um_core.specs.Core.{IsCore}
 use Rattle.um_agree.specs.declared.rule.Rule.TheVariants as asks

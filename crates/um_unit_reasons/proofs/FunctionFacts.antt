@@ -17,11 +17,11 @@ use Rattle.um_elim.proofs.Cases.{on_test}
 use Rattle.um_slots.specs.Keys.{Key, name}
 use Rattle.um_slots.specs.Slots.{function_slots, slot_count, has_slot, place}
 use Rattle.um_slots.proofs.KeyOrder.{place-low}
-use Rattle.um_rows.specs.declared.row.Row.{Row}
-use Rattle.um_rows.specs.declared.row.Rows.{Rows}
-use Rattle.um_rows.specs.declared.row.RowStop.{RowStop}
-use Rattle.um_rows.specs.declared.row.RowStop.TheVariants as rows_stop
-use Rattle.um_rows.specs.Steps.{rows_of, units_of}
+use Rattle.um_equal_types.specs.declared.row.Row.{Row}
+use Rattle.um_equal_types.specs.declared.row.Rows.{Rows}
+use Rattle.um_equal_types.specs.declared.row.RowStop.{RowStop}
+use Rattle.um_equal_types.specs.declared.row.RowStop.TheVariants as rows_stop
+use Rattle.um_equal_types.specs.Steps.{rows_of, units_of}
 use Rattle.um_rows.specs.Equations.{slot_equations}
 use Rattle.um_rows.specs.Solutions.{slot_signature, HaveSchemes}
 use Rattle.um_rows.specs.FirstUnsolvable.{Solving, solved, unsolved, out_of_range, solve, rows_up_to}

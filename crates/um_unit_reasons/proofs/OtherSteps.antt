@@ -13,7 +13,7 @@ use Rattle.um_units.specs.declared.UnitStop.{UnitStop}
 use Rattle.um_units.specs.declared.UnitStop.TheVariants as stop
 use Rattle.um_tree.specs.TypeTree.{bool_type}
 use Rattle.um_elim.proofs.Cases.{on_test}
-use Rattle.um_rows.specs.declared.row.Row.{Row}
+use Rattle.um_equal_types.specs.declared.row.Row.{Row}
 use Rattle.um_agree.specs.declared.agreements.Told.{Told as Agreed}
 use Rattle.um_agree.specs.declared.agreements.Agreements.{Agreements}
 use Rattle.um_agree.specs.declared.rule.Rule.TheVariants as asks

@@ -13,8 +13,8 @@ use Rattle.um_tree.specs.ProgramTree.{FunctionTree, ProgramTree, SchemeTree, pro
 use Rattle.um_elim.specs.Elimination.{Elimination, Solved, NoSolution, Range, eliminate}
 use Rattle.um_elim.specs.Numbering.{renumbered}
 use Rattle.um_elim.specs.Solution.{Solution, parameter_rows}
-use Rattle.um_rows.specs.declared.row.Row.{Row}
-use Rattle.um_rows.specs.Steps.{units_of}
+use Rattle.um_equal_types.specs.declared.row.Row.{Row}
+use Rattle.um_equal_types.specs.Steps.{units_of}
 use Rattle.um_rows.specs.FirstUnsolvable.{rows_up_to}
 use Rattle.um_rows.specs.Judgement.{judge}
 use Rattle.um_core.specs.Laws.{EndsUnsolvable}

@@ -12,8 +12,8 @@ use Rattle.um_tree.specs.Typing.{moved}
 use Rattle.um_elim.specs.Solution.{parameter_rows}
 use Rattle.um_slots.specs.Keys.{Key, name}
 use Rattle.um_slots.specs.Slots.{function_slots, slot_count, has_slot, place}
-use Rattle.um_rows.specs.declared.row.Row.{Row}
-use Rattle.um_rows.specs.Steps.{rows_of, units_of}
+use Rattle.um_equal_types.specs.declared.row.Row.{Row}
+use Rattle.um_equal_types.specs.Steps.{rows_of, units_of}
 use Rattle.um_rows.specs.Equations.{slot_equations}
 use Rattle.um_rows.specs.FirstUnsolvable.{rows_up_to}
 use Rattle.um_rows.specs.Judgement.{Judgement, has_no_typing, not_general}

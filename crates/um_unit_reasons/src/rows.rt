@@ -3,7 +3,7 @@
 ghost use Rattle.std.specs.Prelude.{◌≡◌, ◌<◌, ◌≤◌, ◌+◌, ◌^◌, ℕ, false, All, IfOk, length};
 ghost use Rattle.um_units.specs.Variables.{VariablesBelow};
 ghost use Rattle.um_elim.specs.Solution.{rigid_units};
-ghost use Rattle.um_rows.specs.declared.row.Row.{Row};
+ghost use Rattle.um_equal_types.specs.declared.row.Row.{Row};
 ghost use Rattle.um_rows.specs.FirstUnsolvable.{solve, unsolved};
 ghost use Rattle.um_unit_reasons.specs.Answers.{IsJoined};
 

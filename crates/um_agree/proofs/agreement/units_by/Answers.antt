@@ -4,8 +4,8 @@ use Rattle.std.specs.List.{list_all}
 use Rattle.std.proofs.lemmas.List.{length-map}
 use Rattle.std.proofs.lemmas.Result.{err_from_is_err_and}
 use Rattle.um_units.specs.Range.{fits}
-use Rattle.um_rows.specs.declared.row.Row.{Row}
-use Rattle.um_rows.specs.Steps.{units_of}
+use Rattle.um_equal_types.specs.declared.row.Row.{Row}
+use Rattle.um_equal_types.specs.Steps.{units_of}
 use Rattle.um_agree.proofs.UnitRows.{units_more, units_stop, all_push, row_is}
 use Rattle.um_agree.proofs.agreement.units_by.Goals as goal
 

@@ -2,7 +2,7 @@ use Rattle.std.proofs.Common.{◌≡◌, ◌+◌, ◌<◌, ◌≤◌, length, dr
 use Rattle.um_rows.specs.NodeTypes.{typed_nodes}
 use Rattle.um_agree.specs.declared.rule.Rule.TheVariants.{Sum}
 use Rattle.um_agree.specs.Made.{node_type, known_type, units_in, made_of}
-use Rattle.um_rows.specs.Steps.{units_of}
+use Rattle.um_equal_types.specs.Steps.{units_of}
 use Rattle.um_agree.proofs.RowLaws.{IsPast, default_at, within, one_past, here, stands_here, none_left}
 use Rattle.um_agree.proofs.RowAnswers.{is_told}
 use Rattle.um_agree.proofs.agreements.row_agreement.Goals as goal

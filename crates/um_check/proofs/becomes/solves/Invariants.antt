@@ -1,6 +1,6 @@
 use Rattle.std.proofs.Common.{◌≡◌, ℕ, ◌<◌, get_or}
 use Rattle.um_units.specs.PowerMap.{one, replace, nth}
-use Rattle.um_rows.specs.Steps.{units_of}
+use Rattle.um_equal_types.specs.Steps.{units_of}
 use Rattle.um_check.proofs.becomes.solves.Given as goal
 
 abbrev pub invariant-loop-row : goal.invariant-loop-row

@@ -9,8 +9,8 @@ use Rattle.um_units.specs.declared.Atom.TheVariants.{Var}
 use Rattle.um_units.specs.PowerMap.{PowerMap, mul, pow, atom}
 use Rattle.um_wide.specs.Room.{IsWithin}
 use Rattle.um_wide.proofs.Rooms.{abs_64, within-one, within-mul, within-weaker, room-within}
-use Rattle.um_rows.specs.declared.row.Row.{Row}
-use Rattle.um_rows.specs.Steps.{units_of}
+use Rattle.um_equal_types.specs.declared.row.Row.{Row}
+use Rattle.um_equal_types.specs.Steps.{units_of}
 use Rattle.um_check.specs.declared.certificate.Part.{Part}
 use Rattle.um_check.proofs.Combinations.{combined-none, combined-one, combined-halves}
 use Rattle.um_check.proofs.combination.+product_of_rows.Goals as goal

@@ -2,8 +2,8 @@ use Rattle.std.proofs.Common.{◌<◌, ◌∙◌, sym, subst, length, get_or, []
 use Rattle.std.proofs.lemmas.List.{get_or_default, length-map}
 use Rattle.um_units.specs.declared.Atom.TheVariants.{Var}
 use Rattle.um_units.specs.PowerMap.{PowerMap, atom}
-use Rattle.um_rows.specs.declared.row.Row.{Row}
-use Rattle.um_rows.specs.Steps.{units_of}
+use Rattle.um_equal_types.specs.declared.row.Row.{Row}
+use Rattle.um_equal_types.specs.Steps.{units_of}
 use Rattle.um_check.specs.Combination.{NamesRowsBelow}
 use Rattle.um_check.specs.Tests.{SlotComesBack}
 use Rattle.um_check.proofs.comes_back.all_come_back.Goals as goal

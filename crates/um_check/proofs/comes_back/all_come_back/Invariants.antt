@@ -1,6 +1,6 @@
 use Rattle.std.proofs.Common.{ℕ, ◌<◌, get_or, length, []}
 use Rattle.um_units.specs.PowerMap.{nth}
-use Rattle.um_rows.specs.Steps.{units_of}
+use Rattle.um_equal_types.specs.Steps.{units_of}
 use Rattle.um_check.specs.Combination.{NamesRowsBelow}
 use Rattle.um_check.specs.Tests.{SlotComesBack}
 use Rattle.um_check.proofs.comes_back.all_come_back.Given as goal

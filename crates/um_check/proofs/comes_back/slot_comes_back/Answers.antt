@@ -1,7 +1,7 @@
 use Rattle.std.proofs.Common.{◌∙◌, sym, subst, to_z, of_z, w64}
 use Rattle.std.proofs.lemmas.Int.{to_z-of_z}
 use Rattle.um_wide.specs.Room.{IsNarrow}
-use Rattle.um_rows.specs.Steps.{units_of}
+use Rattle.um_equal_types.specs.Steps.{units_of}
 use Rattle.um_check.proofs.YesTests.{slot_judged}
 use Rattle.um_check.proofs.comes_back.slot_comes_back.Goals as goal
 

@@ -2,8 +2,8 @@ use Rattle.std.proofs.Common.{suc, length, add-one, ap, ◌∙◌, subst, arith,
 use Rattle.std.proofs.lemmas.Int.{ints, to_z-of_z}
 use Rattle.std.proofs.lemmas.List.{length-map}
 use Rattle.um_units.specs.PowerMap.{PowerMap}
-use Rattle.um_rows.specs.declared.row.Row.{Row}
-use Rattle.um_rows.specs.Steps.{units_of}
+use Rattle.um_equal_types.specs.declared.row.Row.{Row}
+use Rattle.um_equal_types.specs.Steps.{units_of}
 use Rattle.um_check.specs.Combination.{combined, NamesRowsBelow}
 use Rattle.um_check.proofs.Refutations.{no_judged, valid_no_refutes}
 use Rattle.um_check.proofs.refutation.check_no.Goals as goal

@@ -5,7 +5,7 @@ use Rattle.um_units.specs.Solutions.{Solves}
 use Rattle.um_tree.specs.ProgramTree.{scheme_tree}
 use Rattle.um_tree.specs.Typing.{put_signature}
 use Rattle.um_rows.specs.Answers.{rows_signature}
-use Rattle.um_rows.specs.Steps.{units_of}
+use Rattle.um_equal_types.specs.Steps.{units_of}
 use Rattle.um_check.specs.Validity.{ShowsGeneral}
 use Rattle.um_check.specs.Tests.{AllComeBack}
 use Rattle.um_check.proofs.YesTests.{valid_from, all_by, moved_back}

@@ -2,7 +2,7 @@ use Rattle.std.proofs.Common.{◌<◌, length, [], ◌∷◌, ◌++◌, take, su
 use Rattle.std.proofs.lemmas.List.{append_assoc}
 use Rattle.std.proofs.lemmas.List.Elements.{All-get_or}
 use Rattle.um_elim.specs.Solution.{Solution, parameter_rows}
-use Rattle.um_rows.specs.Steps.{units_of}
+use Rattle.um_equal_types.specs.Steps.{units_of}
 use Rattle.um_core.specs.Core.{picked}
 use Rattle.um_core.specs.Search.{AreSolved}
 use Rattle.um_core.proofs.SearchSteps.{none_joined, joined_are_solvable, picked_more, first_more, row_below, when_joined, when_refused, front_of_list, next_row_is, all_solvable}

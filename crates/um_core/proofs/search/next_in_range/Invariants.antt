@@ -1,6 +1,6 @@
 use Rattle.std.proofs.Common.{◌++◌, take}
 use Rattle.um_elim.specs.Solution.{parameter_rows}
-use Rattle.um_rows.specs.Steps.{units_of}
+use Rattle.um_equal_types.specs.Steps.{units_of}
 use Rattle.um_core.specs.Core.{picked}
 use Rattle.um_core.specs.Search.{AreSolved}
 use Rattle.um_core.proofs.search.next_in_range.Given as goal

@@ -4,7 +4,7 @@ use Rattle.std.proofs.lemmas.List.Elements.{All-get_or}
 use Rattle.um_elim.specs.Instances.{SolvesExactly}
 use Rattle.um_elim.specs.Solution.{parameter_rows}
 use Rattle.um_elim.proofs.Slots.{rigid_is_general}
-use Rattle.um_rows.specs.Steps.{units_of}
+use Rattle.um_equal_types.specs.Steps.{units_of}
 use Rattle.um_core.specs.Core.{picked}
 use Rattle.um_core.specs.Search.{AreSolved}
 use Rattle.um_core.proofs.SearchSteps.{none_joined, joined_are_solvable, picked_more, first_more, row_below, when_joined, when_refused, front_of_list, next_row_is, all_solvable}

@@ -1,7 +1,7 @@
 use Rattle.std.proofs.Common.{◌++◌, take}
 use Rattle.std.specs.Prelude.{All}
 use Rattle.um_elim.specs.Solution.{parameter_rows}
-use Rattle.um_rows.specs.Steps.{units_of}
+use Rattle.um_equal_types.specs.Steps.{units_of}
 use Rattle.um_wide.specs.Room.{IsNarrow}
 use Rattle.um_core.specs.Core.{picked}
 use Rattle.um_core.specs.Search.{AreSolved}

@@ -4,8 +4,8 @@ use Rattle.std.proofs.lemmas.List.Elements.{All-get_or}
 use Rattle.um_units.specs.declared.Atom.TheVariants.{Var}
 use Rattle.um_units.specs.PowerMap.{PowerMap, atom}
 use Rattle.um_units.specs.Variables.{VariablesBelow}
-use Rattle.um_rows.specs.declared.row.Row.{Row}
-use Rattle.um_rows.specs.Steps.{units_of}
+use Rattle.um_equal_types.specs.declared.row.Row.{Row}
+use Rattle.um_equal_types.specs.Steps.{units_of}
 use Rattle.um_kept.specs.declared.kept.Head.{Head}
 use Rattle.um_kept.specs.declared.stop.CertStop.{CertStop}
 use Rattle.um_kept.specs.declared.stop.CertStop.TheVariants as stop

@@ -1,4 +1,4 @@
-use Rattle.um_rows.specs.Steps.{units_of}
+use Rattle.um_equal_types.specs.Steps.{units_of}
 use Rattle.um_kept.specs.Kept.{Kept, IsReached}
 use Rattle.um_kept.specs.Answers.{Agrees, start}
 use Rattle.um_kept.proofs.made.make_rows.Given as goal

@@ -3,7 +3,7 @@ use Rattle.std.specs.Prelude.{All}
 use Rattle.um_units.specs.Variables.{VariablesBelow}
 use Rattle.um_elim.specs.Solution.{Solution}
 use Rattle.um_elim.proofs.Slots.{length-own}
-use Rattle.um_rows.specs.declared.row.Row.{Row}
+use Rattle.um_equal_types.specs.declared.row.Row.{Row}
 use Rattle.um_proof.proofs.refused.have_solution.Goals as goal
 
 pub add_rows-found-requires-clause-rows : goal.add_rows-found-requires-clause-rows

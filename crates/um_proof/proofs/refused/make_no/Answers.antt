@@ -1,8 +1,8 @@
 use Rattle.std.proofs.Common.{length, sym, subst}
 use Rattle.std.specs.Prelude.{All}
 use Rattle.um_units.specs.Variables.{VariablesBelow}
-use Rattle.um_rows.specs.declared.row.Row.{Row}
-use Rattle.um_rows.specs.Steps.{units_of}
+use Rattle.um_equal_types.specs.declared.row.Row.{Row}
+use Rattle.um_equal_types.specs.Steps.{units_of}
 use Rattle.um_proof.specs.Answers.{judged}
 use Rattle.um_kept.specs.Kept.{IsReached, first}
 use Rattle.um_kept.specs.Answers.{AreRefused, CarriesInRows}

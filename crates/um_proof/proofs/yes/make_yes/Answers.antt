@@ -2,8 +2,8 @@ use Rattle.std.proofs.Common.{length, sym, subst}
 use Rattle.std.specs.Prelude.{All}
 use Rattle.um_units.specs.Variables.{VariablesBelow}
 use Rattle.um_tree.specs.ProgramTree.{scheme_tree}
-use Rattle.um_rows.specs.declared.row.Row.{Row}
-use Rattle.um_rows.specs.Steps.{units_of}
+use Rattle.um_equal_types.specs.declared.row.Row.{Row}
+use Rattle.um_equal_types.specs.Steps.{units_of}
 use Rattle.um_kept.specs.Kept.{IsReached, first}
 use Rattle.um_kept.specs.Answers.{AreRefused, CarriesInRows}
 use Rattle.um_proof.proofs.Judged.{rows_low}

@@ -1,6 +1,6 @@
 use Rattle.std.proofs.Common.{arith, refl, sym, subst, nat_eq}
 use Rattle.std.specs.List.{list_any}
-use Rattle.um_rows.specs.declared.row.Row.{Row}
+use Rattle.um_equal_types.specs.declared.row.Row.{Row}
 use Rattle.um_reasons.specs.Answers.{IsJoinedIf}
 use Rattle.um_reasons.proofs.OthersLeft.{none_solved, stepped, refused}
 use Rattle.um_reasons.proofs.question.others_solved.Goals as goal

@@ -2,10 +2,10 @@ use Rattle.std.proofs.Common.{◌∷◌, ◌-◌, length, take, drop, map, sym, 
 use Rattle.um_units.specs.PowerMap.{nth}
 use Rattle.um_tree.specs.TypeTree.{type_tree}
 use Rattle.um_tree.specs.Typing.{put}
-use Rattle.um_rows.specs.Against.{against as against_steps}
-use Rattle.um_rows.specs.Against.{types_against as types_against_steps}
-use Rattle.um_rows.specs.Pushed.{ArePushed, AreBehind}
-use Rattle.um_rows.proofs.PushLaws.{pushed_after}
+use Rattle.um_equal_types.specs.Against.{against as against_steps}
+use Rattle.um_equal_types.specs.Against.{types_against as types_against_steps}
+use Rattle.um_equal_types.specs.Pushed.{ArePushed, AreBehind}
+use Rattle.um_equal_types.proofs.PushLaws.{pushed_after}
 use Rattle.um_slots.proofs.Parts.{first_and_others}
 use Rattle.um_rows.proofs.calls.+arguments_against.Goals as goal
 

@@ -1,7 +1,7 @@
 use Rattle.std.proofs.Common.{map, subst}
 use Rattle.um_tree.specs.TypeTree.{type_tree}
-use Rattle.um_rows.specs.Against.{types_against as types_against_steps}
-use Rattle.um_rows.specs.Pushed.{AreBehind}
+use Rattle.um_equal_types.specs.Against.{types_against as types_against_steps}
+use Rattle.um_equal_types.specs.Pushed.{AreBehind}
 use Rattle.um_rows.proofs.NodeLaws.{node_made}
 use Rattle.um_rows.proofs.calls.own_call.Goals as goal
 

@@ -2,8 +2,8 @@ use Rattle.std.proofs.Common.{◌≡◌, map, refl, ap, ◌∙◌, rules}
 use Rattle.um_tree.specs.TypeTree.{type_tree}
 use Rattle.um_tree.specs.ExprTree.{expr_tree}
 use Rattle.um_tree.specs.ProgramTree.{result_tree}
-use Rattle.um_rows.specs.Steps.{first_past}
-use Rattle.um_rows.specs.Pushed.{StopsPast}
+use Rattle.um_equal_types.specs.Steps.{first_past}
+use Rattle.um_equal_types.specs.Pushed.{StopsPast}
 use Rattle.um_rows.specs.Walk.{Walked}
 use Rattle.um_rows.specs.Body.{body_steps}
 use Rattle.um_rows.specs.NodeTypes.{typed_node}

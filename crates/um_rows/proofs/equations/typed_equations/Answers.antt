@@ -7,7 +7,7 @@ use Rattle.um_tree.specs.TypeTree.{type_tree, note_tree}
 use Rattle.um_tree.specs.ExprTree.{expr_tree}
 use Rattle.um_tree.specs.ProgramTree.{record_tree, scheme_tree, result_tree}
 use Rattle.um_elim.specs.Application.{type_fits}
-use Rattle.um_rows.specs.Steps.{first_past}
+use Rattle.um_equal_types.specs.Steps.{first_past}
 use Rattle.um_slots.specs.Noted.{noted_types, noted_result}
 use Rattle.um_slots.specs.Callees.{callee_of}
 use Rattle.um_slots.specs.SlotUnits.{AreVariables}
@@ -15,10 +15,10 @@ use Rattle.um_slots.specs.Slotting.{IsTable, StopsSlots, with_keys, name_unit}
 use Rattle.um_rows.specs.declared.nodes.TypedRows.{TypedRows}
 use Rattle.um_rows.specs.NodeTypes.{typed_nodes, derived_nodes}
 use Rattle.um_rows.specs.Closed.{AreClosedBefore}
-use Rattle.um_rows.specs.Pushed.{StopsPast}
+use Rattle.um_equal_types.specs.Pushed.{StopsPast}
 use Rattle.um_slots.specs.Contexts.{IsContextOf, whole_keys}
 use Rattle.um_rows.specs.Body.{AreBodyRows, body_derived, body_steps}
-use Rattle.um_rows.specs.SlotStops.{row_stop}
+use Rattle.um_equal_types.specs.SlotStops.{row_stop}
 use Rattle.um_rows.specs.Answers.{described, StopsFor}
 use Rattle.um_rows.proofs.EquationLaws.{holes_are_variables, head_past, body_right, nodes_right, too_many}
 use Rattle.um_rows.proofs.equations.typed_equations.Goals as goal

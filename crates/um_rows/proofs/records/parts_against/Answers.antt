@@ -6,8 +6,8 @@ use Rattle.um_tree.specs.declared.program.FieldDecl.{FieldDecl}
 use Rattle.um_tree.specs.TypeTree.{type_tree}
 use Rattle.um_tree.specs.Typing.{put}
 use Rattle.um_tree.specs.Laws.{TypeHas}
-use Rattle.um_rows.specs.Against.{types_against as types_against_steps}
-use Rattle.um_rows.specs.Pushed.{ArePushed}
+use Rattle.um_equal_types.specs.Against.{types_against as types_against_steps}
+use Rattle.um_equal_types.specs.Pushed.{ArePushed}
 use Rattle.um_rows.specs.Closed.{declared_types}
 use Rattle.um_rows.proofs.OfferLaws.{fields_at_units}
 use Rattle.um_rows.proofs.records.parts_against.Goals as goal

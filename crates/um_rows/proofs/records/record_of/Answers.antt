@@ -2,7 +2,7 @@ use Rattle.std.proofs.Common.{map, ap}
 use Rattle.um_tree.specs.TypeTree.{type_tree, record_type}
 use Rattle.um_tree.specs.ProgramTree.{record_tree}
 use Rattle.um_tree.specs.Typing.{put, unit_at, field_types}
-use Rattle.um_rows.specs.Against.{types_against as types_against_steps}
+use Rattle.um_equal_types.specs.Against.{types_against as types_against_steps}
 use Rattle.um_rows.proofs.NodeLaws.{node_made}
 use Rattle.um_rows.proofs.records.record_of.Goals as goal
 

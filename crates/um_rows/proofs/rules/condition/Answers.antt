@@ -1,8 +1,8 @@
 use Rattle.std.proofs.Common.{◌++◌}
 use Rattle.um_tree.specs.TypeTree.{type_tree}
-use Rattle.um_rows.specs.Against.{against}
+use Rattle.um_equal_types.specs.Against.{against}
 use Rattle.um_rows.specs.Rules.{asks_bool}
-use Rattle.um_rows.proofs.PushLaws.{behind_then}
+use Rattle.um_equal_types.proofs.PushLaws.{behind_then}
 use Rattle.um_rows.proofs.NodeLaws.{node_formed}
 use Rattle.um_rows.proofs.rules.condition.Goals as goal
 

@@ -2,9 +2,9 @@ use Rattle.std.proofs.Common.{◌≡◌, Ok, sym, ap, subst}
 use Rattle.std.specs.Prelude.{IsTrue}
 use Rattle.um_tree.specs.TypeTree.{type_tree, list_type}
 use Rattle.um_elim.specs.Application.{type_fits}
-use Rattle.um_rows.specs.Against.{against}
+use Rattle.um_equal_types.specs.Against.{against}
 use Rattle.um_rows.specs.Rules.{cons_rule}
-use Rattle.um_rows.specs.Pushed.{AreBehind}
+use Rattle.um_equal_types.specs.Pushed.{AreBehind}
 use Rattle.um_rows.specs.Walk.{node}
 use Rattle.um_rows.proofs.NodeLaws.{node_formed}
 use Rattle.um_rows.proofs.rules.cons.Goals as goal

@@ -2,7 +2,7 @@ use Rattle.std.proofs.Common.{◌≡◌, Ok, map, subst, rules}
 use Rattle.std.specs.Prelude.{IsTrue}
 use Rattle.um_tree.specs.TypeTree.{type_tree, list_type}
 use Rattle.um_elim.specs.Application.{type_fits}
-use Rattle.um_rows.specs.Against.{against_each}
+use Rattle.um_equal_types.specs.Against.{against_each}
 use Rattle.um_rows.specs.Rules.{formed}
 use Rattle.um_rows.specs.Walk.{node}
 use Rattle.um_rows.proofs.NodeLaws.{node_formed}

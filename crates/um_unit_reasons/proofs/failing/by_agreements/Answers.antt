@@ -4,8 +4,8 @@ use Rattle.std.proofs.lemmas.Option.{slice_get_read}
 use Rattle.std.proofs.lemmas.Result.{IfOk-weaker}
 use Rattle.um_units.specs.Variables.{VariablesBelow}
 use Rattle.um_tree.specs.TypeTree.{type_tree}
-use Rattle.um_rows.specs.declared.row.Row.{Row}
-use Rattle.um_rows.specs.Steps.{units_of}
+use Rattle.um_equal_types.specs.declared.row.Row.{Row}
+use Rattle.um_equal_types.specs.Steps.{units_of}
 use Rattle.um_rows.specs.FirstUnsolvable.{rows_up_to}
 use Rattle.um_agree.specs.Answers.{agreement_tree}
 use Rattle.um_reasons.specs.Reasons.{reason}

@@ -4,7 +4,7 @@ use Rattle.std.proofs.lemmas.Result.{IfOk-weaker}
 use Rattle.um_units.specs.Variables.{VariablesBelow}
 use Rattle.um_tree.specs.ProgramTree.{program_tree}
 use Rattle.um_elim.specs.Solution.{rigid_units}
-use Rattle.um_rows.specs.declared.row.Row.{Row}
+use Rattle.um_equal_types.specs.declared.row.Row.{Row}
 use Rattle.um_rows.specs.FirstUnsolvable.{solve, unsolved}
 use Rattle.um_slots.specs.Slots.{function_slots}
 use Rattle.um_agree.specs.FunctionAgreements.{function_agreements}

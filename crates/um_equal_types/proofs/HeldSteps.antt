@@ -8,8 +8,7 @@ use Rattle.um_units.proofs.Group.{power_of-one, power_of-atom, quotient-same, sa
 use Rattle.um_units.proofs.Replacement.{replace-mul, replace-inv, replace-base}
 use Rattle.um_units.proofs.Solutions.{Solves-nil}
 use Rattle.um_tree.specs.TypeTree.{TypeTree}
-use Rattle.um_rows.specs.Steps.{Step, row_at, wrong_shape_at, type_at, types_at, row_units}
-use Rattle.um_rows.specs.Rules.{formed, mismatch}
+use Rattle.um_equal_types.specs.Steps.{Step, row_at, wrong_shape_at, type_at, types_at, row_units}
 
 -- the units v make each row equal to 1
 abbrev pub Holds : (ℕ → PowerMap) → List Step → Type 0
@@ -57,21 +56,11 @@ pub types_hold : (v : ℕ → PowerMap) (at : ℕ) (ts : List TypeTree) → Hold
 types_hold v at [] = tt
 types_hold v at (t ∷ ts) = types_hold v at ts
 
--- ---- the rows of a node
-pub Holds-formed : (v : ℕ → PowerMap) (at : ℕ) (rows : List Step) (t : TypeTree) → Holds v (formed at rows t).steps → Holds v rows
-Holds-formed v at rows t h = Holds-front v rows (type_at at t ∷ []) h
-
-pub formed-holds : (v : ℕ → PowerMap) (at : ℕ) (rows : List Step) (t : TypeTree) → Holds v rows → Holds v (formed at rows t).steps
-formed-holds v at rows t h = Holds-append v rows (type_at at t ∷ []) h tt
-
 -- ---- a row that no units satisfy
 pub never_solved : {A : Type 0} (v : ℕ → PowerMap) → replace v (atom (Base 0)) ≡ one → A
 never_solved v e =
     let clash : pos 1 ≡ pos 0 = sym (power_of-atom (Base 0)) ∙ ap (λ u. power_of u (Base 0)) (sym (replace-base v 0) ∙ e) ∙ power_of-one (Base 0) in
     absurd (cc clash)
-
-pub mismatch_fails : {A : Type 0} (v : ℕ → PowerMap) (at : ℕ) → Holds v (mismatch at).steps → A
-mismatch_fails v at h = never_solved v h.0
 
 -- ---- the row of two units
 quotient_replaced : (v : ℕ → PowerMap) (u w : PowerMap) → replace v (mul u (inv w)) ≡ mul (replace v u) (inv (replace v w))

@@ -2,9 +2,10 @@
 
 ghost use Rattle.std.specs.Prelude.{[], ◌∷◌, map};
 ghost use Rattle.um_tree.specs.TypeTree.{type_tree};
-ghost use Rattle.um_rows.specs.Against.{never, unit_against, units_against, against as against_steps};
-ghost use Rattle.um_rows.specs.Against.{types_against as types_against_steps, against_each as against_each_steps};
-ghost use Rattle.um_rows.specs.Pushed.{ArePushed};
+ghost use Rattle.um_equal_types.specs.Against.{never, unit_against, units_against, against as against_steps};
+ghost use Rattle.um_equal_types.specs.Against.{types_against as types_against_steps};
+ghost use Rattle.um_equal_types.specs.Against.{against_each as against_each_steps};
+ghost use Rattle.um_equal_types.specs.Pushed.{ArePushed};
 
 use crate::row::{Row, RowStop};
 use std::alloc::Global;
@@ -12,7 +13,7 @@ use um_tree::Ty;
 use um_units::{Atom, Unit, UnitStop};
 
 /// Pushes the row of two units: the first over the second.
-pub(crate) fn push_quotient(
+pub fn push_quotient(
     alloc: Global,
     at: u32,
     left: &Unit,
@@ -32,7 +33,7 @@ pub(crate) fn push_quotient(
 }
 
 /// Pushes a row that no units satisfy.
-pub(crate) fn push_never(alloc: Global, at: u32, rows: &mut Vec<Row>) -> Result<(), RowStop>
+pub fn push_never(alloc: Global, at: u32, rows: &mut Vec<Row>) -> Result<(), RowStop>
     ensures { ArePushed (never at) rows.old.items rows.new.items result }
 {
     let unit = Unit::atom(alloc, Atom::Base(0))?;
@@ -66,7 +67,7 @@ fn push_quotients(
 }
 
 /// Pushes the rows of two types: one for each unit, from left to right, the first unit over the second.
-pub(crate) fn against(
+pub fn against(
     alloc: Global,
     at: u32,
     left: &Ty,
@@ -93,7 +94,7 @@ pub(crate) fn against(
 
 /// Pushes the rows of two lists of types, type by type.
 #[tactic(auto, using(crate::proofs::PushLaws::stops_front, crate::proofs::PushLaws::pushed_after))]
-pub(crate) fn types_against(
+pub fn types_against(
     alloc: Global,
     at: u32,
     left: &[Ty],
@@ -119,7 +120,7 @@ pub(crate) fn types_against(
 }
 
 /// Pushes the rows of one type against each of the others.
-pub(crate) fn against_each(
+pub fn against_each(
     alloc: Global,
     at: u32,
     left: &Ty,

@@ -3,7 +3,7 @@
 use Rattle.std.specs.Prelude.{ℕ, ◌==◌, if◌then◌else◌, List, [], ◌∷◌, ◌++◌}
 use Rattle.um_units.specs.PowerMap.{PowerMap, mul, inv}
 use Rattle.um_tree.specs.TypeTree.{TypeTree, bool_type, num_type, list_type, record_type}
-use Rattle.um_rows.specs.Steps.{Step, row_at, wrong_shape_at}
+use Rattle.um_equal_types.specs.Steps.{Step, row_at, wrong_shape_at}
 
 -- the types have two shapes. A function that has its shapes forms no such step
 abbrev pub never : ℕ → List Step

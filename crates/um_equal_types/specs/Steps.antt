@@ -7,7 +7,7 @@ use Rattle.um_units.specs.PowerMap.{PowerMap, atom}
 use Rattle.um_units.specs.Range.{fits}
 use Rattle.um_tree.specs.TypeTree.{TypeTree}
 use Rattle.um_elim.specs.Application.{type_fits}
-use Rattle.um_rows.specs.declared.row.Row.{Row}
+use Rattle.um_equal_types.specs.declared.row.Row.{Row}
 
 -- each step has the place of its node
 pub data Step : Type 0 where

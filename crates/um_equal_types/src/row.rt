@@ -45,7 +45,7 @@ pub enum RowStop {
 
 impl From<SlotStop> for RowStop {
     ghost use Rattle.std.specs.Prelude.{◌≡◌};
-    ghost use Rattle.um_rows.specs.SlotStops.{row_stop};
+    ghost use Rattle.um_equal_types.specs.SlotStops.{row_stop};
 
     ghost from_gives = { λ given stop. stop ≡ row_stop given };
 
@@ -59,7 +59,7 @@ impl From<SlotStop> for RowStop {
 
 impl From<AllocError> for RowStop {
     ghost use Rattle.std.specs.Prelude.{◌≡◌};
-    ghost use Rattle.um_rows.specs.declared.row.RowStop.TheVariants.{NoMemory};
+    ghost use Rattle.um_equal_types.specs.declared.row.RowStop.TheVariants.{NoMemory};
 
     ghost from_gives = { λ _ stop. stop ≡ NoMemory };
 
@@ -70,7 +70,7 @@ impl From<AllocError> for RowStop {
 
 impl<T: Drop> From<AllocFailed<T>> for RowStop {
     ghost use Rattle.std.specs.Prelude.{◌≡◌};
-    ghost use Rattle.um_rows.specs.declared.row.RowStop.TheVariants.{NoMemory};
+    ghost use Rattle.um_equal_types.specs.declared.row.RowStop.TheVariants.{NoMemory};
 
     ghost from_gives = { λ _ stop. stop ≡ NoMemory };
 

@@ -1,10 +1,10 @@
 use Rattle.std.proofs.Common.{map, rules}
 use Rattle.um_tree.specs.TypeTree.{type_tree}
-use Rattle.um_rows.specs.Steps.{first_past}
-use Rattle.um_rows.specs.Against.{against_each}
-use Rattle.um_rows.specs.Pushed.{StopsPast}
-use Rattle.um_rows.proofs.PushLaws.{each_next, each_stops}
-use Rattle.um_rows.proofs.against.against_each.Goals as goal
+use Rattle.um_equal_types.specs.Steps.{first_past}
+use Rattle.um_equal_types.specs.Against.{against_each}
+use Rattle.um_equal_types.specs.Pushed.{StopsPast}
+use Rattle.um_equal_types.proofs.PushLaws.{each_next, each_stops}
+use Rattle.um_equal_types.proofs.equality.against_each.Goals as goal
 
 pub returns-in_err-against : goal.returns-in_err-against
 returns-in_err-against c =

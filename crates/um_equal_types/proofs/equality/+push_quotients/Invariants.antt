@@ -1,5 +1,5 @@
 use Rattle.std.proofs.Common.{length}
-use Rattle.um_rows.proofs.against.+push_quotients.Given as goal
+use Rattle.um_equal_types.proofs.equality.+push_quotients.Given as goal
 
 abbrev pub decreases-push_quotients : goal.decreases-push_quotients
 decreases-push_quotients l = length l.left.now

@@ -1,5 +1,5 @@
 use Rattle.std.proofs.Common.{length}
-use Rattle.um_rows.proofs.against.+types_against.Given as goal
+use Rattle.um_equal_types.proofs.equality.+types_against.Given as goal
 
 abbrev pub decreases-types_against : goal.decreases-types_against
 decreases-types_against l = length l.left.now

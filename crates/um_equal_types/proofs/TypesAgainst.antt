@@ -6,8 +6,8 @@ use Rattle.um_units.specs.PowerMap.{PowerMap, replace}
 use Rattle.um_tree.specs.TypeTree.{TypeTree, bool_type, num_type, list_type, record_type}
 use Rattle.um_tree.specs.Typing.{put, EachIs}
 use Rattle.um_elim.proofs.Cases.{on_test}
-use Rattle.um_rows.specs.Against.{never, units_against, against, types_against, against_each}
-use Rattle.um_rows.proofs.HeldSteps.{Holds, Holds-front, Holds-back, Holds-append, never_solved, same_from_row, row-same}
+use Rattle.um_equal_types.specs.Against.{never, units_against, against, types_against, against_each}
+use Rattle.um_equal_types.proofs.HeldSteps.{Holds, Holds-front, Holds-back, Holds-append, never_solved, same_from_row, row-same}
 
 module _ (v : ℕ → PowerMap) (at : ℕ) where
   -- ---- units

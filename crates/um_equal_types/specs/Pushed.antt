@@ -1,10 +1,10 @@
 -- Rows that are pushed for steps, or the first step that is out of range.
 -- Source: this project's own; want of memory may come in place of every answer.
 use Rattle.std.specs.Prelude.{◌≡◌, ℕ, List, ◌++◌, Option, Some, None, Result, MatchResult}
-use Rattle.um_rows.specs.declared.row.Row.{Row}
-use Rattle.um_rows.specs.declared.row.RowStop.{RowStop}
-use Rattle.um_rows.specs.declared.row.RowStop.TheVariants as stop
-use Rattle.um_rows.specs.Steps.{Step, rows_of, first_past}
+use Rattle.um_equal_types.specs.declared.row.Row.{Row}
+use Rattle.um_equal_types.specs.declared.row.RowStop.{RowStop}
+use Rattle.um_equal_types.specs.declared.row.RowStop.TheVariants as stop
+use Rattle.um_equal_types.specs.Steps.{Step, rows_of, first_past}
 
 -- no step is out of range, and the steps' rows follow the old ones
 abbrev pub AreBehind : List Step → List Row → List Row → Type 0

@@ -8,12 +8,12 @@ use Rattle.um_units.specs.Range.{fits}
 use Rattle.um_tree.specs.declared.types.Ty.{Ty}
 use Rattle.um_tree.specs.TypeTree.{TypeTree, type_tree}
 use Rattle.um_elim.specs.Application.{type_fits}
-use Rattle.um_rows.specs.declared.row.Row.{Row}
-use Rattle.um_rows.specs.declared.row.RowStop.{RowStop}
-use Rattle.um_rows.specs.declared.row.RowStop.TheVariants as stop
-use Rattle.um_rows.specs.Steps.{Step, row_at, wrong_shape_at, type_at, first_past, rows_of}
-use Rattle.um_rows.specs.Against.{never, against, against_each}
-use Rattle.um_rows.specs.Pushed.{AreBehind, StopsPast, ArePushed}
+use Rattle.um_equal_types.specs.declared.row.Row.{Row}
+use Rattle.um_equal_types.specs.declared.row.RowStop.{RowStop}
+use Rattle.um_equal_types.specs.declared.row.RowStop.TheVariants as stop
+use Rattle.um_equal_types.specs.Steps.{Step, row_at, wrong_shape_at, type_at, first_past, rows_of}
+use Rattle.um_equal_types.specs.Against.{never, against, against_each}
+use Rattle.um_equal_types.specs.Pushed.{AreBehind, StopsPast, ArePushed}
 
 abbrev pub first_of : Option ℕ → Option ℕ → Option ℕ
 first_of None o = o

@@ -1,11 +1,11 @@
 use Rattle.std.proofs.Common.{◌∷◌, ◌-◌, length, take, drop, map, sym, subst}
 use Rattle.um_tree.specs.TypeTree.{type_tree}
-use Rattle.um_rows.specs.Against.{against as against_steps}
-use Rattle.um_rows.specs.Against.{types_against as types_against_steps}
-use Rattle.um_rows.specs.Pushed.{ArePushed}
-use Rattle.um_rows.proofs.PushLaws.{pushed_after}
+use Rattle.um_equal_types.specs.Against.{against as against_steps}
+use Rattle.um_equal_types.specs.Against.{types_against as types_against_steps}
+use Rattle.um_equal_types.specs.Pushed.{ArePushed}
+use Rattle.um_equal_types.proofs.PushLaws.{pushed_after}
 use Rattle.um_slots.proofs.Parts.{first_and_others}
-use Rattle.um_rows.proofs.against.+types_against.Goals as goal
+use Rattle.um_equal_types.proofs.equality.+types_against.Goals as goal
 
 pub returns-in_ok-against-in-len1-up-right-2 : goal.returns-in_ok-against-in-len1-up-right-2
 returns-in_ok-against-in-len1-up-right-2 t c =

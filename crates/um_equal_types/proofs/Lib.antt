@@ -1,0 +1,3 @@
+pub mod HeldSteps
+pub mod TypesAgainst
+pub mod PushLaws
