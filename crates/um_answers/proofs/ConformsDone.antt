@@ -5,7 +5,7 @@ use Rattle.um_tree.specs.ProgramTree.{ProgramTree, SchemeTree}
 use Rattle.um_tree.specs.Formed.{IsFormed}
 use Rattle.um_tree.specs.Scheme.{IsPrincipal}
 use Rattle.um_measures.specs.declared.abbreviation.Abbreviation.{Abbreviation}
-use Rattle.um_names.specs.SignatureNames.{SignatureTypes}
+use Rattle.um_sig.specs.SignatureNames.{SignatureTypes}
 use Rattle.um_sig.specs.declared.signature.Signature.{Signature as ReadSignature}
 use Rattle.um_sig.specs.declared.stop.SigText.{SigText}
 use Rattle.um_sig.specs.declared.stop.SigText.TheVariants as sig_text

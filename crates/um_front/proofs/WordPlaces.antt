@@ -20,7 +20,7 @@ use Rattle.um_measures.specs.Faults.{unknown, twice, wrong_count, hole, range, F
 use Rattle.um_measures.specs.Known.{Known, number_of, record_names, measure_unit}
 use Rattle.um_measures.specs.UnitNames.{unknown_in, resolved_unit}
 use Rattle.um_names.specs.TypeNames.{resolved_record, resolved_type, written_type}
-use Rattle.um_names.specs.SignatureNames.{SignatureTypes, unless_unknown, note_names, all_note_names, number_names, type_names, all_type_names, one_type, resolved_types, signature_variables, resolved_signature}
+use Rattle.um_sig.specs.SignatureNames.{SignatureTypes, unless_unknown, note_names, all_note_names, number_names, type_names, all_type_names, one_type, resolved_types, signature_variables, resolved_signature}
 use Rattle.um_value.specs.declared.stop.InputStop.{InputStop}
 use Rattle.um_value.specs.declared.stop.InputStop.TheVariants as input_stop
 use Rattle.um_value.specs.ValueSyntax.{ValueSyntax, ValueSyntaxes, raw_truth, raw_number, raw_list, raw_record, raw_none, raw_more}

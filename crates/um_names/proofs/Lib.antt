@@ -1,6 +1,7 @@
 pub mod RecordNames
 mod Examples
 pub mod CallableNames
+pub mod DistinctNames
 pub mod FieldNames
 pub mod BodyLists
 pub mod Declarations
@@ -20,8 +21,4 @@ pub mod FormedMore
 pub mod FormedDecls
 pub mod FormedFunctions
 pub mod FormedPrograms
-pub mod HeadNames
-pub mod NameChecks
-pub mod SignatureHeads
-mod NeverTwice
 pub mod RecordsFound

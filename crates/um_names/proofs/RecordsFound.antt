@@ -10,7 +10,7 @@ use Rattle.um_names.specs.ExprNames.{same_names, if_same_names, with_all_fields,
 use Rattle.um_measures.specs.Known.{number_of, one_later, names_of_fields, field_names}
 use Rattle.um_names.specs.RecordLaws.{RecordHasTheseFields, RecordIsFound}
 use Rattle.um_names.proofs.CallableNames.{slice_get-prefix}
-use Rattle.um_names.proofs.HeadNames.{behind, distinct-back}
+use Rattle.um_names.proofs.DistinctNames.{behind, distinct-back}
 use Rattle.um_measures.proofs.NameLists.{number_of-below}
 
 itself : (x : List ℕ) → bytes_eq x x ≡ true

@@ -13,13 +13,14 @@ use um_measures::{Abbreviation, Measures, NameDigest};
 use um_tree::{Function, Name};
 use um_units::{Atom, Unit};
 
+/// A copy of a name.
 pub fn copied(alloc: Global, name: &Name) -> Result<Name, AllocError>
     ensures { IfOk result (λ copy. copy ≡ name.now) }
 {
     Name::from_slice(alloc, name.as_slice())
 }
 
-// One more measure, behind those before.
+// One more measure, after those before.
 fn add_measure(
     alloc: Global,
     measures: &mut Measures,
@@ -83,44 +84,6 @@ pub fn add_function(
         Ok(()) => Ok(tables.functions.push(function)?),
         Err(error) => {
             drop(function);
-            Err(error)
-        }
-    }
-}
-
-/// With one more base unit, whose name is new.
-pub fn with_base(alloc: Global, tables: Tables, name: &Name) -> Result<Tables, AllocError>
-    requires tables { AreTables tables }
-    requires new { is_taken (known_of tables) name.now ≡ false }
-    ensures tables { IfOk result AreTables }
-    ensures known { IfOk result (λ t. known_of t ≡ with_base (known_of tables) name.now) }
-{
-    let mut tables = tables;
-    match add_base(alloc, &mut tables, name) {
-        Ok(()) => Ok(tables),
-        Err(error) => {
-            drop(tables);
-            Err(error)
-        }
-    }
-}
-
-/// With one more abbreviation.
-pub fn with_short(
-    alloc: Global,
-    tables: Tables,
-    name: &Name,
-    unit: Unit,
-) -> Result<Tables, AllocError>
-    requires tables { AreTables tables }
-    ensures tables { IfOk result AreTables }
-    ensures known { IfOk result (λ t. known_of t ≡ with_short (known_of tables) name.now unit) }
-{
-    let mut tables = tables;
-    match add_short(alloc, &mut tables, name, unit) {
-        Ok(()) => Ok(tables),
-        Err(error) => {
-            drop(tables);
             Err(error)
         }
     }

@@ -1,6 +1,6 @@
 //! What a record adds to the tables.
 
-ghost use Rattle.std.specs.Prelude.{◌≡◌, ℕ, List, [], ◌∷◌, ◌++◌, cond, false, IfOk, OnOk, map, length};
+ghost use Rattle.std.specs.Prelude.{◌≡◌, ℕ, List, [], ◌∷◌, ◌++◌, cond, false, OnOk, map, length};
 ghost use Rattle.um_tree.specs.ProgramTree.{field_tree, record_tree};
 ghost use Rattle.um_measures.specs.Known.{number_of, is_among, record_names, names_of_fields};
 ghost use Rattle.um_names.specs.Parts.{field_else, field_if, field_at};
@@ -107,23 +107,6 @@ pub fn add_record(alloc: Global, tables: &mut Tables, decl: Record) -> Result<()
         Ok(()) => Ok(tables.records.push(decl)?),
         Err(error) => {
             drop(decl);
-            Err(error)
-        }
-    }
-}
-
-/// With one more record, whose name is new.
-pub fn with_record(alloc: Global, tables: Tables, decl: Record) -> Result<Tables, AllocError>
-    requires tables { AreTables tables }
-    requires new { is_among (record_names (known_of tables).program.records) decl.name ≡ false }
-    ensures tables { IfOk result AreTables }
-    ensures known { IfOk result (λ t. known_of t ≡ with_record (known_of tables) (record_tree decl)) }
-{
-    let mut tables = tables;
-    match add_record(alloc, &mut tables, decl) {
-        Ok(()) => Ok(tables),
-        Err(error) => {
-            drop(tables);
             Err(error)
         }
     }

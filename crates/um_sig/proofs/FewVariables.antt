@@ -19,7 +19,7 @@ use Rattle.um_types.specs.SignatureGrammar.{TypesSpell, IsSignature}
 use Rattle.um_measures.specs.Faults.{and_then}
 use Rattle.um_measures.specs.Known.{Known, is_among}
 use Rattle.um_measures.specs.Variables.{unit_variables, all_unit_variables, note_variables, number_variables, type_variables, first_occurrences}
-use Rattle.um_names.specs.SignatureNames.{SignatureTypes, all_type_names, resolved_types, signature_variables, resolved_signature}
+use Rattle.um_sig.specs.SignatureNames.{SignatureTypes, all_type_names, resolved_types, signature_variables, resolved_signature}
 use Rattle.um_names.proofs.FormedTypes.{then_found}
 use Rattle.um_sig.specs.declared.signature.Signature.{Signature}
 use Rattle.um_sig.specs.declared.stop.SigText.{SigText}

@@ -11,4 +11,8 @@ pub mod MatchingSteps
 pub mod SignaturesIn
 mod FewVariables
 pub mod UniqueReadings
+pub mod HeadNames
+pub mod NameChecks
+pub mod SignatureHeads
+mod NeverTwice
 mod Examples

@@ -17,7 +17,7 @@ use Rattle.um_measures.specs.ClosedUnits.{given}
 use Rattle.um_measures.specs.Faults.{and_then}
 use Rattle.um_measures.specs.Known.{Known}
 use Rattle.um_names.specs.TypeNames.{resolved_type, written_type}
-use Rattle.um_names.specs.SignatureNames.{SignatureTypes, all_type_names, one_type, resolved_types, signature_variables, resolved_signature}
+use Rattle.um_sig.specs.SignatureNames.{SignatureTypes, all_type_names, one_type, resolved_types, signature_variables, resolved_signature}
 use Rattle.um_names.proofs.FormedUnits.{AreClosedIn, closed_last, closed_none}
 use Rattle.um_names.proofs.FormedTypes.{then_found, type_in, type_written}
 use Rattle.um_sig.specs.declared.signature.Signature.{Signature}

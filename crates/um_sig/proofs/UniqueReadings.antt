@@ -14,7 +14,7 @@ use Rattle.um_types.proofs.SignatureLaws.{signature_answers_exclude}
 use Rattle.um_measures.specs.declared.abbreviation.Abbreviation.{Abbreviation}
 use Rattle.um_measures.specs.ClosedUnits.{given}
 use Rattle.um_measures.specs.Faults.{Fault, unknown, twice, wrong_count, hole, range, Found}
-use Rattle.um_names.specs.SignatureNames.{SignatureTypes, resolved_signature}
+use Rattle.um_sig.specs.SignatureNames.{SignatureTypes, resolved_signature}
 use Rattle.um_sig.specs.declared.signature.Signature.{Signature}
 use Rattle.um_sig.specs.declared.stop.SigText.{SigText}
 use Rattle.um_sig.specs.declared.stop.SigText.TheVariants as stop

@@ -3,9 +3,11 @@ pub mod Form
 pub mod Matching
 pub mod Instances
 pub mod Answers
+pub mod SignatureNames
 pub mod Reading
 -- What these definitions come to: statements, each proved as the contract of a function of src/laws.rt.
 pub mod Laws
 -- The code's.
 pub mod Steps
 pub mod ReadingSteps
+pub mod Heads

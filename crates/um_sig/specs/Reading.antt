@@ -15,7 +15,7 @@ use Rattle.um_types.specs.SignatureGrammar.{IsSignature, SignatureFails, Signatu
 use Rattle.um_measures.specs.declared.abbreviation.Abbreviation.{Abbreviation}
 use Rattle.um_measures.specs.ClosedUnits.{given}
 use Rattle.um_measures.specs.Faults.{Found, unknown, wrong_count, hole, range}
-use Rattle.um_names.specs.SignatureNames.{SignatureTypes, resolved_signature}
+use Rattle.um_sig.specs.SignatureNames.{SignatureTypes, resolved_signature}
 use Rattle.um_sig.specs.declared.signature.Signature.{Signature}
 use Rattle.um_sig.specs.declared.stop.SigText.{SigText}
 use Rattle.um_sig.specs.declared.stop.SigText.TheVariants as stop

@@ -9,7 +9,7 @@ use Rattle.um_unit_texts.specs.UnitStops.{greatest_height, place_of}
 use Rattle.um_types.specs.TypeHeights.{all_height}
 use Rattle.um_types.specs.SignatureGrammar.{IsSignature, SignatureFails, SignatureHighAt}
 use Rattle.um_measures.specs.Faults.{Found, range}
-use Rattle.um_names.specs.SignatureNames.{SignatureTypes}
+use Rattle.um_sig.specs.SignatureNames.{SignatureTypes}
 use Rattle.um_sig.specs.declared.signature.Signature.{Signature}
 use Rattle.um_sig.specs.declared.stop.SigText.{SigText}
 use Rattle.um_sig.specs.declared.stop.SigText.TheVariants as stop

@@ -13,14 +13,17 @@
 
 mod conformity;
 mod form;
+mod heads;
 pub mod laws;
 mod matching;
 mod reading;
 mod row;
 mod signature;
 mod stop;
+mod types;
 
 pub use conformity::conform;
 pub use reading::read_signature;
 pub use signature::Signature;
 pub use stop::{SigStop, SigText};
+pub use types::types_of;

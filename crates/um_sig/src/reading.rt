@@ -6,15 +6,15 @@ ghost use Rattle.um_tree.specs.ProgramTree.{program_tree};
 ghost use Rattle.um_tree.specs.RawTree.{type_syntaxes};
 ghost use Rattle.um_tree.specs.Formed.{IsFormed};
 ghost use Rattle.um_measures.specs.ClosedUnits.{given};
-ghost use Rattle.um_names.specs.SignatureNames.{resolved_signature};
+ghost use Rattle.um_sig.specs.SignatureNames.{resolved_signature};
 ghost use Rattle.um_sig.specs.Reading.{IsRead, AreClosedUnits, IsSignatureIn};
 ghost use Rattle.um_sig.specs.ReadingSteps.{AreTokens, IsParsed, IsNamed};
 
 use crate::signature::Signature;
 use crate::stop::SigText;
+use crate::types::types_of;
 use std::alloc::Global;
 use um_measures::{Abbreviations, NameStop};
-use um_names::types_of;
 use um_syntax::{LexStop, Tokens, lex};
 use um_tree::{Program, RawTypes};
 use um_types::{ParseStop, parse_types};
