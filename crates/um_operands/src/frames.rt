@@ -5,9 +5,8 @@ ghost use Rattle.um_operands.specs.ExprBegun.{top_bound, top_rank};
 ghost use Rattle.um_operands.specs.ExprFrames.{view_frame, entry_least, stack, base, bases, Taken};
 
 use crate::frame::{Entry, Frame};
-use crate::height::counted_sum;
 use std::alloc::{AllocError, Global};
-use um_unit_texts::{TOO_HIGH, higher, one_higher};
+use um_unit_texts::{TOO_HIGH, counted_sum, higher, one_higher};
 
 /// The open frames, the innermost last.
 #[derive(Drop)]

@@ -10,10 +10,9 @@ ghost use Rattle.um_operands.specs.ExprFocus.{view_expected, focus_height, state
 
 use crate::focus::{Expected, Focus};
 use crate::frames::Frames;
-use crate::height::counted_sum;
 use crate::matching::Matching;
 use crate::operand::Operand;
-use um_unit_texts::{TOO_HIGH, higher, one_higher};
+use um_unit_texts::{TOO_HIGH, counted_sum, higher, one_higher};
 
 // One above this part, and above a part that is missing.
 fn above(part: &Operand) -> u32

@@ -17,7 +17,6 @@ mod ending;
 mod focus;
 mod frame;
 mod frames;
-mod height;
 mod infix;
 mod least_height;
 mod matching;

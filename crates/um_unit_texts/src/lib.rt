@@ -18,7 +18,7 @@ mod unit_machine;
 mod unit_operand;
 mod unit_reader;
 
-pub use height::{GREATEST_HEIGHT, TOO_HIGH, higher, one_higher};
+pub use height::{GREATEST_HEIGHT, TOO_HIGH, counted_sum, higher, one_higher};
 pub use name::name_of;
 pub use places::place;
 pub use unit_machine::{is_foreign, written_power};

@@ -3,7 +3,7 @@ ghost use Rattle.std.specs.Prelude.{◌≡◌, ◌<◌, ◌∷◌, [], IfSome, O
 ghost use Rattle.um_unit_texts.specs.UnitCount.{counted};
 ghost use Rattle.um_unit_texts.specs.UnitFrames.{view_frame, entry_least, stack, base, bases, Taken};
 
-use crate::height::{self, TOO_HIGH, higher, one_higher};
+use crate::height::{TOO_HIGH, counted_sum, higher, one_higher};
 use crate::unit_frame::{Entry, Frame};
 use std::alloc::{AllocError, Global};
 
@@ -52,7 +52,7 @@ impl Frames {
     pub fn push(&mut self, frame: Frame) -> Result<(), AllocError>
         ensures { OnOk result (frames_of self.new ≡ view_frame frame ∷ frames_of self.old) }
     {
-        let own = height::count(one_higher(frame.side()) + self.count());
+        let own = counted_sum(one_higher(frame.side()), self.count());
         let least = higher(self.least(), own);
         self.entries.push(Entry { frame, least })?;
         Ok(())

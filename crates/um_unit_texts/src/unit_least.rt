@@ -5,7 +5,7 @@ ghost use Rattle.um_unit_texts.specs.UnitLeast.{least};
 ghost use Rattle.um_unit_texts.specs.UnitCount.{counted};
 ghost use Rattle.um_unit_texts.specs.UnitView.{state_of, focus_height};
 
-use crate::height::{TOO_HIGH, count, higher, one_higher};
+use crate::height::{TOO_HIGH, counted_sum, higher, one_higher};
 use crate::unit_frame::Focus;
 use crate::unit_frames::Frames;
 
@@ -24,6 +24,6 @@ fn focus_height(focus: &Focus) -> u32
 pub fn is_low(frames: &Frames, focus: &Focus) -> bool
     ensures { result ≡ nat_lt (least (state_of frames.now focus.now)) (greatest_height + 1) }
 {
-    let height = count(focus_height(focus) + frames.count());
+    let height = counted_sum(focus_height(focus), frames.count());
     higher(frames.least(), height) < TOO_HIGH
 }
