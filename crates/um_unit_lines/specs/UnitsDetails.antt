@@ -11,11 +11,9 @@ use Rattle.um_infer.specs.declared.stop.InferStop.{InferStop}
 use Rattle.um_infer.specs.declared.stop.InferStop.TheVariants as stop
 use Rattle.um_show.specs.UnitText.{unit_text}
 use Rattle.um_reports.specs.Places.{place_text}
+use Rattle.um_reports.specs.Steps.{line}
 use Rattle.um_unit_reasons.specs.declared.reason.Told.{Told}
 use Rattle.um_unit_reasons.specs.UnitReasons.{UnitReason, told_of, out_of_range, IsReasonOf}
-
-abbrev pub line : List ℕ → List ℕ
-line text = text ++ codes "\n"
 
 -- the two types of an agreement, with this before each
 abbrev pub types_lines : List ℕ → Told → List ℕ

@@ -6,7 +6,8 @@ ghost use Rattle.um_tree.specs.ProgramTree.{program_tree};
 ghost use Rattle.um_agree.specs.Wording.{first_word, second_word};
 ghost use Rattle.um_reports.specs.Cursors.{IsAt};
 ghost use Rattle.um_unit_reasons.specs.Answers.{reason_tree};
-ghost use Rattle.um_unit_lines.specs.UnitsDetails.{line, types_lines, factor_line, more_line};
+ghost use Rattle.um_reports.specs.Steps.{line};
+ghost use Rattle.um_unit_lines.specs.UnitsDetails.{types_lines, factor_line, more_line};
 ghost use Rattle.um_unit_lines.specs.UnitsDetails.{failing_lines, other_lines, since, reason_text};
 
 use std::alloc::{AllocError, Global};
