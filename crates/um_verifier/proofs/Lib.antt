@@ -2,15 +2,11 @@ mod Firsts
 mod Scalars
 mod NameTests
 mod TakenNames
-mod Below
 mod OverRecords
 mod RecordHeads
 mod FunctionHeads
 mod ReadyImages
 mod OneRefusal
-mod Nests
-mod Fitting
-mod JoinedStates
 mod Sending
 mod LowStates
 mod LowMet
@@ -18,3 +14,5 @@ mod Loop
 mod EachBody
 mod Taken
 mod TakenMany
+mod TopItems
+mod TopFits

@@ -12,7 +12,8 @@ use Rattle.um_shape.specs.RecordShapes.{RecordShape, shape_height, tallest, decl
 use Rattle.um_verify.specs.StackShape.{StackShape, on_stack, stack_height}
 use Rattle.um_verify.specs.Heads.{and_shapes, NamesBelow}
 use Rattle.um_verify.specs.Rules.{low_state}
-use Rattle.um_verifier.specs.KnownImages.{off_stack, names_below, over, highest}
+use Rattle.um_verifier.specs.KnownImages.{off_stack, over, highest}
+use Rattle.um_stacks.specs.FlatShapes.{names_below}
 
 -- ---- heights
 

@@ -22,7 +22,7 @@ use Rattle.um_verify.specs.StackShape.{StackShape, on_stack}
 use Rattle.um_verify.specs.ImageTree.{IsPlainRecord}
 use Rattle.um_verify.specs.Heads.{record_shapes, RecordHolds}
 use Rattle.um_verify.specs.Rules.{fields_on_stack}
-use Rattle.um_verifier.specs.FlatShapes.{flat_shapes}
+use Rattle.um_stacks.specs.FlatShapes.{flat_shapes}
 use Rattle.um_verifier.specs.KnownImages.{off_stack, known_shape, known_fields, known_heights, over, admits, highest}
 use Rattle.um_verifier.specs.Names.{Takes}
 use Rattle.um_verifier.specs.KnownHeads.{KnowsRecords, TakesRecords, IsKnownRecord, FindsRecord}

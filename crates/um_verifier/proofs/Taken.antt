@@ -12,13 +12,13 @@ use Rattle.um_machine.specs.declared.code.Code.{Code}
 use Rattle.um_shape.specs.RecordShapes.{RecordShape, declared_height}
 use Rattle.um_verify.specs.StackShape.{StackShape, bool, list, fits, join, stack_height}
 use Rattle.um_verify.specs.Rules.{Body, Flow, fails, passes, need, to, on_list_shape, fit_one, fit_two, rule, low_state}
-use Rattle.um_verifier.specs.FlatShapes.{item_shape, in_lists, flat_shape, flat_shapes}
+use Rattle.um_stacks.specs.FlatShapes.{item_shape, in_lists, flat_shape, flat_shapes}
 use Rattle.um_verifier.specs.KnownImages.{known_shape, known_heights, known_view, lowered}
-use Rattle.um_verifier.specs.declared.flat.FlatShape.{FlatShape}
+use Rattle.um_stacks.specs.declared.flat.FlatShape.{FlatShape}
 use Rattle.um_verifier.specs.declared.known.Known.{Known}
 use Rattle.um_verifier.specs.declared.known.KnownRecord.{KnownRecord}
-use Rattle.um_verifier.specs.declared.flat.Item.{Item}
-use Rattle.um_verifier.specs.declared.flat.Item.TheVariants.{Void, Bool, Num, Record}
+use Rattle.um_stacks.specs.declared.flat.Item.{Item}
+use Rattle.um_stacks.specs.declared.flat.Item.TheVariants.{Void, Bool, Num, Record}
 use Rattle.um_tree.specs.Heights.{greatest_height}
 use Rattle.um_verifier.proofs.LowStates.{low_front, lowered_both}
 

@@ -1,7 +1,7 @@
 -- What is taken by instructions on many values, and on lists and records.
-use Rattle.std.proofs.Common.{◌≡◌, ◌≢◌, refl, sym, ap, ◌∙◌, ℕ, zero, suc, ◌+◌, ◌-◌, ◌<◌, ◌≤◌, Bool, true, false, cond, ◌&&◌, List, [], ◌∷◌, ◌++◌, length, map, take, drop, get_or, Option, Some, None, option_map, slice_get, arith, append_assoc, length-drop}
+use Rattle.std.proofs.Common.{◌≡◌, refl, sym, ap, ◌∙◌, ℕ, zero, suc, ◌+◌, ◌-◌, ◌<◌, ◌≤◌, Bool, true, false, cond, ◌&&◌, List, [], ◌∷◌, ◌++◌, length, map, take, drop, get_or, Option, Some, None, option_map, slice_get, arith, append_assoc}
 use Rattle.std.specs.Prelude.{nat_eq, nat_le}
-use Rattle.std.proofs.lemmas.List.{length-map, map-append, take_all}
+use Rattle.std.proofs.lemmas.List.{length-map}
 use Rattle.std.proofs.lemmas.Option.{slice_get-map}
 use Rattle.std.proofs.lemmas.Bool.Decides.{nat_tests}
 use Rattle.um_tree.specs.Heights.{greatest_height}
@@ -10,46 +10,16 @@ use Rattle.um_machine.specs.declared.op.Op.TheVariants.{MakeList, Split, MakeRec
 use Rattle.um_machine.specs.declared.code.Entry.{Entry}
 use Rattle.um_machine.specs.declared.code.Code.{Code}
 use Rattle.um_machine.specs.Stack.{takes, on_one, on_found}
-use Rattle.um_verify.specs.StackShape.{StackShape, list, made, fits, fit_all, join, join_with, join_items, stack_height}
+use Rattle.um_verify.specs.StackShape.{StackShape, list, made, fit_all, join_items, stack_height}
 use Rattle.um_verify.specs.Rules.{Body, Flow, fails, passes, need, to, on_list_shape, rule, low_state}
-use Rattle.um_verifier.specs.FlatShapes.{flat_shape, flat_shapes}
+use Rattle.um_stacks.specs.FlatShapes.{flat_shape, flat_shapes}
 use Rattle.um_verifier.specs.KnownImages.{known_fields, known_heights, known_body, known_bodies, known_view, lowered, fit_many, part_flow}
-use Rattle.um_verifier.specs.declared.flat.FlatShape.{FlatShape}
+use Rattle.um_stacks.specs.declared.flat.FlatShape.{FlatShape}
 use Rattle.um_verifier.specs.declared.known.KnownRecord.{KnownRecord}
 use Rattle.um_verifier.specs.declared.known.KnownHead.{KnownHead}
 use Rattle.um_verifier.specs.declared.known.Known.{Known}
 use Rattle.um_verifier.proofs.LowStates.{low_push}
 use Rattle.um_verifier.proofs.Taken.{takes_few, takes_top, takes_at, lowered_need, ItemsAre, items_none_are, items_are}
-
-cond_false : (b : Bool) → cond b false false ≡ false
-cond_false true = refl
-cond_false false = refl
-
-pub fit_lengths : (xs ys : List FlatShape) → length xs ≢ length ys → false ≡ fit_all (flat_shapes xs) (flat_shapes ys)
-fit_lengths [] [] h = absurd (h refl)
-fit_lengths (x ∷ xs) (y ∷ ys) h =
-    sym (cond_false (fits (flat_shape x) (flat_shape y))) ∙ ap (λ (b : Bool). cond (fits (flat_shape x) (flat_shape y)) b false) (fit_lengths xs ys (λ e. h (ap suc e)))
-fit_lengths [] (y ∷ ys) h = refl
-fit_lengths (x ∷ xs) [] h = refl
-
--- no join of some is no join of all
-items_up : (xs : List FlatShape) (i : ℕ) → join_items (flat_shapes (drop i xs)) ≡ None → join_items (flat_shapes xs) ≡ None
-items_up xs zero h = h
-items_up [] (suc i) h = h
-items_up (x ∷ xs) (suc i) h = ap (join_with (flat_shape x)) (items_up xs i h)
-
-items_step : (xs : List FlatShape) (i : ℕ) (x : FlatShape) → i < length xs → x ≡ get_or xs i x → join_items (flat_shapes (drop i xs)) ≡ join_with (flat_shape x) (join_items (flat_shapes (drop (i + 1) xs)))
-items_step [] i x h e = absurd (omega arith)
-items_step (y ∷ xs) zero x h e = ap (λ (z : FlatShape). join_with (flat_shape z) (join_items (flat_shapes xs))) (sym e)
-items_step (y ∷ xs) (suc i) x h e =
-    let next : suc (i + 1) ≡ suc i + 1 = omega arith in
-    items_step xs i x (omega arith) e ∙ ap (λ (m : ℕ). join_with (flat_shape x) (join_items (flat_shapes (drop m (y ∷ xs))))) next
-
-pub items_none : (xs : List FlatShape) (i j : ℕ) (x item : FlatShape) (o : Option FlatShape) → i + 1 ≡ j → i < length xs → x ≡ get_or xs i x → o ≡ None → option_map flat_shape o ≡ join (flat_shape x) (flat_shape item) → join_items (flat_shapes (drop j xs)) ≡ Some (flat_shape item) → None ≡ join_items (flat_shapes xs)
-items_none xs i j x item o s h e n k inv =
-    let none : join (flat_shape x) (flat_shape item) ≡ None = sym k ∙ ap (option_map flat_shape) n in
-    let behind : join_items (flat_shapes (drop (i + 1) xs)) ≡ Some (flat_shape item) = ap (λ (m : ℕ). join_items (flat_shapes (drop m xs))) s ∙ inv in
-    sym (items_up xs i (items_step xs i x h e ∙ ap (join_with (flat_shape x)) behind ∙ none))
 
 equal_is : (m n : ℕ) → m ≡ n → nat_eq m n ≡ true
 equal_is m n h = grind (arith, nat_tests)
@@ -178,13 +148,3 @@ body_there (e ∷ es) [] f k n h s = absurd (omega arith)
 
 pub fields_there : (rs : List KnownRecord) (r : ℕ) (k : KnownRecord) → slice_get rs r ≡ Some k → slice_get (map (λ (k : KnownRecord). flat_shapes k.fields.items) rs) r ≡ Some (flat_shapes k.fields.items)
 fields_there rs r k h = slice_get-map (λ (k : KnownRecord). flat_shapes k.fields.items) rs r ∙ ap (option_map (λ (k : KnownRecord). flat_shapes k.fields.items)) h
-
--- the slice of the last k
-pub slice_tail : (xs ys : List FlatShape) (n k : ℕ) → ys ≡ xs → n ≡ length xs → take (length ys - (n - k)) (drop (n - k) ys) ≡ drop (length xs - k) xs
-slice_tail xs ys n k e h =
-    let l : length (drop (n - k) ys) ≡ length ys - (n - k) = length-drop (n - k) ys in
-    take_all (length ys - (n - k)) (drop (n - k) ys) (omega arith) ∙ (λ i. drop (h i - k) (e i))
-
-pub pushed_two : (a b d : List FlatShape) (i y : FlatShape) → b ≡ a ++ i ∷ [] → d ≡ b ++ y ∷ [] → flat_shapes d ≡ flat_shapes a ++ flat_shape i ∷ flat_shape y ∷ []
-pushed_two a b d i y h k =
-    ap flat_shapes (k ∙ ap (λ (l : List FlatShape). l ++ y ∷ []) h ∙ append_assoc a (i ∷ []) (y ∷ [])) ∙ map-append flat_shape a (i ∷ y ∷ [])

@@ -9,7 +9,7 @@ use Rattle.um_verify.specs.StackShape.{StackShape, on_stack}
 use Rattle.um_verify.specs.ImageTree.{HeadTree, ImageTree}
 use Rattle.um_verify.specs.Heads.{record_shapes, RecordHolds, FunctionHolds}
 use Rattle.um_verify.specs.Rules.{fields_on_stack}
-use Rattle.um_verifier.specs.FlatShapes.{flat_shape, flat_shapes}
+use Rattle.um_stacks.specs.FlatShapes.{flat_shape, flat_shapes}
 use Rattle.um_verifier.specs.KnownImages.{known_fields, known_heights, admits, highest}
 use Rattle.um_verifier.specs.declared.stop.VerifyStop.{VerifyStop}
 use Rattle.um_verifier.specs.declared.stop.VerifyStop.TheVariants.{Head, Code, NoMemory}

@@ -1,6 +1,6 @@
 -- What the code keeps of an image: the shapes of its records and functions. This mirrors the code.
 -- Source: this project's own.
-use Rattle.std.specs.Prelude.{ℕ, ◌+◌, ◌&&◌, Bool, true, nat_lt, nat_le, max, List, [], ◌∷◌, ◌++◌, length, map}
+use Rattle.std.specs.Prelude.{ℕ, ◌+◌, ◌&&◌, Bool, nat_le, max, List, [], ◌∷◌, ◌++◌, length, map}
 use Rattle.std.specs.Prelude.{slice_get, vec_len}
 use Rattle.um_tree.specs.TypeTree.{ShapeTree, bool_shape, num_shape, list_shape, record_shape}
 use Rattle.um_tree.specs.Heights.{greatest_height}
@@ -11,7 +11,7 @@ use Rattle.um_machine.specs.Stack.{takes, on_found}
 use Rattle.um_verify.specs.StackShape.{StackShape, void, bool, num, list, made, fit_all, stack_height}
 use Rattle.um_verify.specs.Rules.{Body, View, Flow, fails, passes, need, to, on_record_shape, fields_of}
 use Rattle.um_verify.specs.Rules.{inside, low_states}
-use Rattle.um_verifier.specs.FlatShapes.{flat_shape, flat_shapes}
+use Rattle.um_stacks.specs.FlatShapes.{flat_shape, flat_shapes, names_below}
 use Rattle.um_verifier.specs.declared.known.KnownRecord.{KnownRecord}
 use Rattle.um_verifier.specs.declared.known.KnownHead.{KnownHead}
 use Rattle.um_verifier.specs.declared.known.Known.{Known}
@@ -74,14 +74,6 @@ part_flow fields s k go =
     on_record_shape s (go void) (λ r. on_found (slice_get (fields_of (slice_get fields r)) k) fails go)
 
 -- ---- shapes over what is known
-
--- the record that it names, if it names one, is below n
-abbrev pub names_below : ℕ → StackShape → Bool
-names_below n void = true
-names_below n bool = true
-names_below n num = true
-names_below n (list s) = names_below n s
-names_below n (made r) = nat_lt r n
 
 -- a shape over n records of these heights, and at most 400 high
 abbrev pub over : ℕ → List RecordShape → StackShape → Bool

@@ -3,7 +3,6 @@ pub mod Refusals
 -- What refusals come to: a statement, proved as the contract of the function of src/laws.rt.
 pub mod Laws
 -- What mirrors the code: shapes and tables as they are kept, and what is known after some heads.
-pub mod FlatShapes
 pub mod Tables
 pub mod KnownImages
 pub mod States

@@ -2,9 +2,10 @@
 -- Source: this project's own.
 use Rattle.std.specs.Prelude.{◌≡◌, true, List}
 use Rattle.um_verify.specs.Rules.{low_state}
-use Rattle.um_verifier.specs.FlatShapes.{flat_shapes}
+use Rattle.um_stacks.specs.FlatShapes.{flat_shapes}
+use Rattle.um_stacks.specs.Stacks.{stack_at}
+use Rattle.um_stacks.specs.declared.flat.FlatShape.{FlatShape}
 use Rattle.um_verifier.specs.KnownImages.{known_heights}
-use Rattle.um_verifier.specs.declared.flat.FlatShape.{FlatShape}
 use Rattle.um_verifier.specs.declared.known.Known.{Known}
 use Rattle.um_verifier.specs.declared.table.Met.{Met}
 use Rattle.um_verifier.specs.declared.table.Met.TheVariants.{Nobody, Clash, Arrived}
@@ -14,7 +15,7 @@ abbrev pub AreLow : Known → List FlatShape → Type 0
 AreLow known st = low_state (known_heights known) (flat_shapes st) ≡ true
 
 -- what has arrived is low
-abbrev pub IsLowMet : Known → Met → Type 0
-IsLowMet known Nobody = Unit {0}
-IsLowMet known Clash = Unit {0}
-IsLowMet known (Arrived st) = AreLow known st.items
+abbrev pub IsLowMet : Known → List (List FlatShape) → Met → Type 0
+IsLowMet known stacks Nobody = Unit {0}
+IsLowMet known stacks Clash = Unit {0}
+IsLowMet known stacks (Arrived k) = AreLow known (stack_at stacks k)

@@ -1,24 +1,28 @@
 //! The rules of a function's instructions, one address after another.
-ghost use Rattle.std.specs.Prelude.{◌≡◌, ◌<◌, ◌+◌, ◌-◌, ℕ, length, slice_get, vec_len, IfOk, MatchOption};
+ghost use Rattle.std.specs.Prelude.{◌≡◌, ◌<◌, ◌+◌, ◌-◌, ◌∷◌, [], ℕ, List, length, slice_get, get_or, vec_len};
+ghost use Rattle.std.specs.Prelude.{IfOk, MatchOption};
 ghost use Rattle.um_verify.specs.Rules.{Body};
-ghost use Rattle.um_verify.specs.Verified.{nobody, arrived, passed, BodyHolds, CodeHolds, FirstFailure, IsFirstAddress};
-ghost use Rattle.um_verifier.specs.FlatShapes.{flat_shape, flat_shapes};
+ghost use Rattle.um_verify.specs.Verified.{passed, BodyHolds, CodeHolds, FirstFailure, IsFirstAddress};
+ghost use Rattle.um_stacks.specs.FlatShapes.{flat_shape};
+ghost use Rattle.um_stacks.specs.Stacks.{stack_at};
+ghost use Rattle.um_stacks.specs.declared.flat.FlatShape.{FlatShape};
 ghost use Rattle.um_verifier.specs.KnownImages.{known_body, known_view, stays};
 ghost use Rattle.um_verifier.specs.States.{AreLow, IsLowMet};
 ghost use Rattle.um_verifier.specs.Bodies.{AreReady};
-ghost use Rattle.um_verifier.specs.Tables.{met_of, met_at, flow_of, StaysIn};
+ghost use Rattle.um_verifier.specs.Tables.{met_of, flow_of, StaysIn};
+ghost use Rattle.um_verifier.specs.declared.table.Met.TheVariants.{Nobody, Arrived};
 
-use crate::flat::FlatShape;
 use crate::known::{Known, KnownHead};
 use crate::rules::rule;
-use crate::table::{Flow, Met, send, take_met};
+use crate::table::{Flow, Met, send};
 use crate::view::View;
 use std::alloc::{AllocError, Global};
 use um_machine::{Code, Entry};
+use um_stacks::{EMPTY, FlatShape, Stacks};
 
 /// What is passed on, if it goes to later addresses of the function.
 fn checked(flow: Flow, at: u32, end: u32) -> Flow
-    ensures flow { flow_of result ≡ stays at end (flow_of flow) }
+    ensures flow { (stacks : List (List FlatShape)) → flow_of stacks result ≡ stays at end (flow_of stacks flow) }
     ensures stays { StaysIn (at + 1) end result }
 {
     let stays = match &flow {
@@ -31,45 +35,51 @@ fn checked(flow: Flow, at: u32, end: u32) -> Flow
 }
 
 /// What the instruction at an address of a function passes on, if this has arrived.
-fn pass(
-    view: &View,
-    result_shape: FlatShape,
-    at: u32,
-    end: u32,
-    met: Met,
-) -> Result<Flow, AllocError>
+fn pass(view: &View, stacks: &Stacks, result_shape: FlatShape, at: u32, end: u32, met: Met) -> Flow
     requires address { at < end }
-    requires low { IsLowMet view.now.known.now met }
-    ensures flow { (body : Body) → body.end ≡ end → body.result ≡ flat_shape result_shape → IfOk result (λ f. flow_of f
+    requires low { IsLowMet view.now.known.now stacks.now met }
+    ensures flow { (body : Body) → body.end ≡ end → body.result ≡ flat_shape result_shape → flow_of stacks.now result
         ≡ passed (known_view view.now.known.now view.now.code.now) body at (slice_get view.now.code.now.ops at)
-        (met_of met)) }
-    ensures stays { IfOk result (λ f. StaysIn (at + 1) end f) }
+        (met_of stacks.now met) }
+    ensures stays { StaysIn (at + 1) end result }
 {
     let ops = view.code.ops.as_slice();
     if ops.len() <= at as usize {
-        return Ok(Flow::Fails);
+        return Flow::Fails;
     }
     let op = ops[at as usize];
     match met {
-        Met::Nobody => Ok(Flow::Fails),
-        Met::Clash => Ok(Flow::Fails),
-        Met::Arrived(state) => {
-            let flow = rule(view.alloc, view.known, result_shape, state, at, op)?;
-            Ok(checked(flow, at, end))
+        Met::Nobody => Flow::Fails,
+        Met::Clash => Flow::Fails,
+        Met::Arrived(stack) => {
+            let flow = rule(view.known, stacks, result_shape, stack, at, op);
+            checked(flow, at, end)
         }
     }
 }
 
-/// The table before the first address: the parameters have arrived at it, and nobody elsewhere.
-fn first_table(alloc: Global, params: &[FlatShape], count: u32) -> Result<Vec<Met>, AllocError>
+/// The number of the stack of these shapes, the last of which is its top.
+fn stack_of(stacks: &mut Stacks, shapes: &[FlatShape]) -> Result<u32, AllocError>
+    requires empty { stacks.old ≡ [] ∷ [] }
+    ensures number { IfOk result (λ stack. stack < length stacks.new) }
+    ensures stack { IfOk result (λ stack. stack_at stacks.new stack ≡ shapes.now) }
+{
+    let mut stack = EMPTY;
+    for i in 0..shapes.len() {
+        stack = stacks.push(stack, shapes[i])?;
+    }
+    Ok(stack)
+}
+
+/// The table before the first address: this stack has arrived at it, and nobody elsewhere.
+fn first_table(alloc: Global, stack: u32, count: u32) -> Result<Vec<Met>, AllocError>
     requires { 0 < count }
     ensures length { IfOk result (λ table. vec_len table ≡ count) }
-    ensures first { IfOk result (λ table. met_at table.items 0 ≡ arrived (flat_shapes params.now)) }
-    ensures others { IfOk result (λ table. (t : ℕ) → 0 < t → met_at table.items t ≡ nobody) }
+    ensures first { IfOk result (λ table. get_or table.items 0 Nobody ≡ Arrived stack) }
+    ensures others { IfOk result (λ table. (t : ℕ) → 0 < t → get_or table.items t Nobody ≡ Nobody) }
 {
     let mut table = Vec::new(alloc);
-    let state = params.iter().copied().collect(alloc)?;
-    table.push(Met::Arrived(state))?;
+    table.push(Met::Arrived(stack))?;
     for _ in 1..count {
         table.push(Met::Nobody)?;
     }
@@ -89,14 +99,16 @@ pub(crate) fn verify_body(
         (λ n. FirstFailure (known_view view.now.known.now view.now.code.now) (known_body entry head.now) n)) }
 {
     let count = entry.end - entry.start;
-    let mut table = first_table(view.alloc, &head.params, count)?;
+    let mut stacks = Stacks::new(view.alloc);
+    let first = stack_of(&mut stacks, &head.params)?;
+    let mut table = first_table(view.alloc, first, count)?;
     for n in 0..count {
-        let met = take_met(&mut table, n as usize);
-        let flow = pass(view, head.result, entry.start + n, entry.end, met)?;
+        let met = table[n as usize];
+        let flow = pass(view, &stacks, head.result, entry.start + n, entry.end, met);
         if flow.has_failed() {
             return Ok(Some(n));
         }
-        send(view.alloc, &mut table, entry.start, flow)?;
+        send(view.alloc, &mut stacks, &mut table, entry.start, flow)?;
     }
     Ok(None)
 }

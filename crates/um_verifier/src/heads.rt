@@ -7,19 +7,19 @@ ghost use Rattle.um_shape.specs.RecordShapes.{shape_height};
 ghost use Rattle.um_verify.specs.StackShape.{on_stack};
 ghost use Rattle.um_verify.specs.ImageTree.{ImageTree, head_tree, image_tree, IsPlainHead, HasForm};
 ghost use Rattle.um_verify.specs.Heads.{FunctionHolds};
-ghost use Rattle.um_verifier.specs.FlatShapes.{flat_shapes};
+ghost use Rattle.um_stacks.specs.FlatShapes.{flat_shapes};
 ghost use Rattle.um_verifier.specs.KnownHeads.{TakesHeads, known_signature, head_signature, admits_signature};
 ghost use Rattle.um_verifier.specs.KnownHeads.{FindsHead, AreKnownRecords, AreKnownHeads};
 ghost use Rattle.um_verifier.specs.Refusals.{IsRefusal};
 
 use crate::VerifyStop;
-use crate::flat::FlatShape;
 use crate::known::{Known, KnownHead};
 use crate::names::{heads_digest, take_name};
 use crate::records::known_records;
 use std::alloc::{AllocError, Global};
 use um_machine::Entry;
 use um_measures::NameTable;
+use um_stacks::FlatShape;
 use um_tree::Shape;
 use um_verify::{Head, Image};
 

@@ -2,7 +2,7 @@
 ghost use Rattle.std.specs.Prelude.{◌≡◌, ◌≤◌, ◌&&◌, nat_le, option_map, slice_get};
 ghost use Rattle.um_tree.specs.Heights.{greatest_height};
 
-use crate::flat::{FlatShape, Item};
+use um_stacks::{FlatShape, Item};
 use um_tree::GREATEST_HEIGHT;
 
 /// The shapes of a record's fields, and its own height through them.
@@ -33,7 +33,7 @@ impl Known {
     ghost use Rattle.um_machine.specs.Stack.{on_found};
     ghost use Rattle.um_verify.specs.StackShape.{StackShape, stack_height};
     ghost use Rattle.um_verify.specs.Rules.{Flow, fails, fields_of};
-    ghost use Rattle.um_verifier.specs.FlatShapes.{item_shape, flat_shape, flat_shapes};
+    ghost use Rattle.um_stacks.specs.FlatShapes.{item_shape, flat_shape, flat_shapes};
     ghost use Rattle.um_verifier.specs.KnownImages.{known_fields, known_heights, admits, highest, part_flow};
 
     fn item_height(&self, item: Item) -> u32

@@ -11,7 +11,6 @@
 
 mod body;
 mod check;
-mod flat;
 mod heads;
 mod known;
 mod laws;

@@ -11,16 +11,16 @@ ghost use Rattle.um_tree.specs.ProgramTree.{RecordTree, record_tree};
 ghost use Rattle.um_verify.specs.StackShape.{on_stack};
 ghost use Rattle.um_verify.specs.ImageTree.{IsPlainRecord};
 ghost use Rattle.um_verify.specs.Heads.{RecordHolds};
-ghost use Rattle.um_verifier.specs.FlatShapes.{flat_shapes};
+ghost use Rattle.um_stacks.specs.FlatShapes.{flat_shapes};
 ghost use Rattle.um_verifier.specs.KnownImages.{known_heights, admits};
 ghost use Rattle.um_verifier.specs.KnownHeads.{TakesRecords, IsKnownRecord, FindsRecord, AreKnownRecords, IsRecordStop};
 
 use crate::VerifyStop;
-use crate::flat::FlatShape;
 use crate::known::{Known, KnownRecord};
 use crate::names::{records_digest, take_field_names, take_name};
 use std::alloc::{AllocError, Global};
 use um_measures::NameTable;
+use um_stacks::FlatShape;
 use um_tree::{FieldDecl, Record};
 
 /// The shapes of the fields' types.

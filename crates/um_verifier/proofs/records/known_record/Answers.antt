@@ -2,9 +2,9 @@ use Rattle.std.proofs.Common.{◌≡◌, ◌≤◌, List, true, sym, ap, ◌∙�
 use Rattle.std.specs.Prelude.{vec_len}
 use Rattle.std.specs.List.{list_all}
 use Rattle.um_tree.specs.Heights.{greatest_height}
-use Rattle.um_verifier.specs.FlatShapes.{flat_shapes}
+use Rattle.um_stacks.specs.FlatShapes.{flat_shapes}
 use Rattle.um_verifier.specs.KnownImages.{known_heights, admits}
-use Rattle.um_verifier.specs.declared.flat.FlatShape.{FlatShape}
+use Rattle.um_stacks.specs.declared.flat.FlatShape.{FlatShape}
 use Rattle.um_verifier.proofs.OverRecords.{highest_low}
 use Rattle.um_verifier.proofs.records.known_record.Goals as goal
 

@@ -1,20 +1,20 @@
 use Rattle.std.proofs.Common.{rules, ap, ◌∙◌, ◌<◌, ◌≤◌, length, List}
-use Rattle.std.proofs.lemmas.Result.{IfOk-weaker}
-use Rattle.um_verifier.specs.FlatShapes.{flat_shape, flat_shapes}
+use Rattle.um_stacks.specs.FlatShapes.{flat_shape, flat_shapes}
 use Rattle.um_verifier.specs.KnownImages.{known_heights, lowered, fit_many}
-use Rattle.um_verifier.specs.declared.flat.FlatShape.{FlatShape}
+use Rattle.um_stacks.specs.declared.flat.FlatShape.{FlatShape}
 use Rattle.um_verifier.proofs.TakenMany.{call_none, call_is, bodies_past, body_there}
+use Rattle.um_stacks.specs.Stacks.{stack_at}
 use Rattle.um_verifier.proofs.rules.call.Goals as goal
 
 pub returns-then-len-f : goal.returns-then-len-f
 returns-then-len-f c = λ code body n.
     let hs = c.args.known.now.heads.items in
     let past : length hs ≤ c.args.f = search rules in
-    call_none c.args.known.now c.args.at c.args.state.items code body c.args.f (bodies_past code.entries hs c.args.f past)
+    call_none c.args.known.now c.args.at (stack_at c.args.stacks.now c.args.stack) code body c.args.f (bodies_past code.entries hs c.args.f past)
 
 pub returns : goal.returns
 returns c = λ code body n.
     let hs = c.args.known.now.heads.items in
     let within : c.args.f < length hs = search rules in
     let b = body_there code.entries hs c.args.f c.index-head.result.now n within c.index-head.ensures in
-    IfOk-weaker c.on_all.result _ _ (λ f e. e ∙ ap (λ (l : List FlatShape). lowered (known_heights c.args.known.now) (fit_many c.args.at (flat_shapes c.args.state.items) (flat_shapes l) (flat_shape c.index-head.result.now.result))) c.deref.ensures.value ∙ call_is c.args.known.now c.args.at c.args.state.items code body c.args.f b.0 c.index-head.result.now b.1) c.on_all.ensures
+    c.on_all.ensures ∙ ap (λ (l : List FlatShape). lowered (known_heights c.args.known.now) (fit_many c.args.at (flat_shapes (stack_at c.args.stacks.now c.args.stack)) (flat_shapes l) (flat_shape c.index-head.result.now.result))) c.deref.ensures.value ∙ call_is c.args.known.now c.args.at (stack_at c.args.stacks.now c.args.stack) code body c.args.f b.0 c.index-head.result.now b.1

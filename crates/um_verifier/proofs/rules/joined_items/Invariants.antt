@@ -1,10 +1,10 @@
-use Rattle.std.proofs.Common.{◌≡◌, ◌≤◌, Some, drop, length}
-use Rattle.um_verify.specs.StackShape.{join_items}
-use Rattle.um_verifier.specs.FlatShapes.{flat_shape, flat_shapes}
+use Rattle.std.proofs.Common.{length}
+use Rattle.um_stacks.specs.Stacks.{stack_at}
+use Rattle.um_verifier.proofs.TopItems.{ItemsFrom}
 use Rattle.um_verifier.proofs.rules.joined_items.Given as goal
 
-abbrev pub invariant-loop-i : goal.invariant-loop-i
-invariant-loop-i l = (l.i ≤ length l.shapes) × (join_items (flat_shapes (drop l.i l.shapes)) ≡ Some (flat_shape l.item))
+abbrev pub invariant-loop-item : goal.invariant-loop-item
+invariant-loop-item l = ItemsFrom (stack_at l.stacks l.stack) (stack_at l.stacks l.low) l.place l.item
 
-abbrev pub decreases-loop-i : goal.decreases-loop-i
-decreases-loop-i l = l.i
+abbrev pub decreases-loop-item : goal.decreases-loop-item
+decreases-loop-item l = length (stack_at l.stacks l.low)

@@ -1,24 +1,23 @@
-use Rattle.std.proofs.Common.{rules, ◌≡◌, refl, ap, List, ◌∙◌, ◌<◌, ◌≤◌, ◌-◌, take, drop, length, option_map}
-use Rattle.std.proofs.lemmas.Result.{IfOk-weaker}
+use Rattle.std.proofs.Common.{◌≡◌, refl, ap, ◌∙◌, ℕ, ◌<◌, ◌≤◌, ◌-◌, take, drop, length, option_map, arith}
 use Rattle.um_verify.specs.StackShape.{join_items}
-use Rattle.um_verifier.specs.FlatShapes.{flat_shape, flat_shapes}
-use Rattle.um_verifier.specs.declared.flat.FlatShape.{FlatShape}
+use Rattle.um_stacks.specs.FlatShapes.{flat_shape, flat_shapes}
+use Rattle.um_stacks.specs.Stacks.{stack_at}
 use Rattle.um_verifier.proofs.Taken.{low_cut}
-use Rattle.um_verifier.proofs.TakenMany.{list_few, list_is, slice_tail}
+use Rattle.um_verifier.proofs.TakenMany.{list_few, list_is}
 use Rattle.um_verifier.proofs.rules.make_list.Goals as goal
 
-pub returns-then-len-n : goal.returns-then-len-n
-returns-then-len-n c = λ code body.
-    let few : length c.args.state.items < c.args.n = search rules in
-    list_few c.args.known.now c.args.at c.args.state.items code body c.args.n few
+pub returns-then-height-n : goal.returns-then-height-n
+returns-then-height-n c = λ code body.
+    let few : length (stack_at c.args.stacks.now c.args.stack) < c.args.n = omega (arith, c.height-height.ensures.height, c.if-height-n.true) in
+    list_few c.args.known.now c.args.at (stack_at c.args.stacks.now c.args.stack) code body c.args.n few
 
 pub pushed_list-requires-clause-low : goal.pushed_list-requires-clause-low
-pushed_list-requires-clause-low c = low_cut c.args.known.now c.args.state.items c.truncate.new.self.items _ c.requires.low c.truncate.ensures.items
+pushed_list-requires-clause-low c = low_cut c.args.known.now (stack_at c.args.stacks.now c.args.stack) (stack_at c.args.stacks.now c.lower-low.result) _ c.requires.low c.lower-low.ensures
 
 pub returns : goal.returns
 returns c = λ code body.
-    let many : c.args.n ≤ length c.args.state.items = search rules in
-    let place = length c.args.state.items - c.args.n in
-    let cut : c.truncate.new.self.items ≡ take place c.args.state.items = search (rules, c.truncate.ensures.items) in
-    let joined : option_map flat_shape c.joined_items-item.result ≡ join_items (flat_shapes (drop place c.args.state.items)) = c.joined_items-item.ensures ∙ ap (λ (l : List FlatShape). join_items (flat_shapes l)) (slice_tail c.args.state.items c.deref.result.now c.len-2.result c.args.n c.deref.ensures.value (search rules)) in
-    IfOk-weaker c.pushed_list.result _ _ (λ f e. e ∙ list_is c.args.known.now c.args.at c.args.state.items code body c.args.n c.truncate.new.self.items (drop place c.args.state.items) c.joined_items-item.result many cut refl joined) c.pushed_list.ensures
+    let st = stack_at c.args.stacks.now c.args.stack in
+    let many : c.args.n ≤ length st = omega (arith, c.height-height.ensures.height, c.if-height-n.false) in
+    let cut : stack_at c.args.stacks.now c.lower-low.result ≡ take (length st - c.args.n) st = c.lower-low.ensures ∙ ap (λ (m : ℕ). take (m - c.args.n) st) c.height-height.ensures.height in
+    let joined : option_map flat_shape c.joined_items-item.result ≡ join_items (flat_shapes (drop (length st - c.args.n) st)) = c.joined_items-item.ensures ∙ ap (λ (m : ℕ). join_items (flat_shapes (drop (m - c.args.n) st))) c.height-height.ensures.height in
+    c.pushed_list.ensures ∙ list_is c.args.known.now c.args.at st code body c.args.n (stack_at c.args.stacks.now c.lower-low.result) (drop (length st - c.args.n) st) c.joined_items-item.result many cut refl joined

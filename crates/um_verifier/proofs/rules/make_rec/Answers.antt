@@ -1,11 +1,11 @@
 use Rattle.std.proofs.Common.{rules, ◌≡◌, refl, sym, ap, ◌∙◌, ◌<◌, length, slice_get, Some, List}
-use Rattle.std.proofs.lemmas.Result.{IfOk-weaker}
 use Rattle.std.proofs.lemmas.Option.{slice_get_read}
 use Rattle.um_verify.specs.StackShape.{StackShape}
-use Rattle.um_verifier.specs.FlatShapes.{flat_shapes}
+use Rattle.um_stacks.specs.FlatShapes.{flat_shapes}
 use Rattle.um_verifier.specs.KnownImages.{known_heights, known_fields, lowered, fit_many}
-use Rattle.um_verifier.specs.declared.flat.FlatShape.{FlatShape}
+use Rattle.um_stacks.specs.declared.flat.FlatShape.{FlatShape}
 use Rattle.um_verifier.proofs.TakenMany.{rec_is, fields_there}
+use Rattle.um_stacks.specs.Stacks.{stack_at}
 use Rattle.um_verifier.proofs.rules.make_rec.Goals as goal
 
 pub returns : goal.returns
@@ -16,4 +16,4 @@ returns c = λ code body.
     let ss = c.deref-fields.result.now in
     let fields : slice_get (known_fields c.args.known.now) c.args.r ≡ Some (flat_shapes ss) = fields_there rs c.args.r c.index.result.now there ∙ ap (λ (l : List FlatShape). Some (flat_shapes l)) (sym c.deref-fields.ensures.value) in
     let count : length ss ≡ c.args.n = search rules in
-    IfOk-weaker c.on_all.result _ _ (λ f e. e ∙ ap (λ (s : StackShape). lowered (known_heights c.args.known.now) (fit_many c.args.at (flat_shapes c.args.state.items) (flat_shapes ss) s)) c.of.ensures ∙ rec_is c.args.known.now c.args.at c.args.state.items code body c.args.r c.args.n ss fields count) c.on_all.ensures
+    c.on_all.ensures ∙ ap (λ (s : StackShape). lowered (known_heights c.args.known.now) (fit_many c.args.at (flat_shapes (stack_at c.args.stacks.now c.args.stack)) (flat_shapes ss) s)) c.of.ensures ∙ rec_is c.args.known.now c.args.at (stack_at c.args.stacks.now c.args.stack) code body c.args.r c.args.n ss fields count

@@ -1,25 +1,29 @@
-use Rattle.std.proofs.Common.{rules, ◌≡◌, ◌∙◌, ◌<◌, ◌≤◌, ◌-◌, ◌∷◌, [], take, length}
-use Rattle.std.proofs.lemmas.Result.{IfOk-weaker}
+use Rattle.std.proofs.Common.{◌≡◌, ap, ◌∙◌, ℕ, ◌<◌, ◌≤◌, ◌-◌, ◌∷◌, [], List, take, length, arith}
+use Rattle.um_stacks.specs.declared.flat.FlatShape.{FlatShape}
+use Rattle.um_stacks.specs.Stacks.{stack_at}
 use Rattle.um_verifier.proofs.Taken.{slide_none, slide_few, slide_is, low_left, low_cut}
 use Rattle.um_verifier.proofs.rules.slide.Goals as goal
 
-pub returns-then-len-k : goal.returns-then-len-k
-returns-then-len-k c = λ code body.
-    let few : length c.pop.new.self.items < c.args.k = search rules in
-    slide_few c.args.known.now c.args.at c.args.state.items code body c.args.k c.pop.new.self.items c.in-Some.y c.in-Some.ensures.items few
+pub returns-in-None : goal.returns-in-None
+returns-in-None c = λ code body.
+    let none : length (stack_at c.args.stacks.now c.args.stack) ≡ 0 = ap (λ (s : List FlatShape). length s) c.in-None.ensures in
+    slide_none c.args.known.now c.args.at (stack_at c.args.stacks.now c.args.stack) code body c.args.k none
+
+pub returns-then-height-k : goal.returns-then-height-k
+returns-then-height-k c = λ code body.
+    let low = stack_at c.args.stacks.now c.in-Some.low in
+    let few : length low < c.args.k = omega (arith, c.height-height.ensures.height, c.if-height-k.true) in
+    slide_few c.args.known.now c.args.at (stack_at c.args.stacks.now c.args.stack) code body c.args.k low c.in-Some.y c.in-Some.ensures few
 
 pub pushed-requires-clause-low : goal.pushed-requires-clause-low
 pushed-requires-clause-low c =
-    let popped = low_left c.args.known.now c.args.state.items c.pop.new.self.items (c.in-Some.y ∷ []) c.requires.low c.in-Some.ensures.items in
-    low_cut c.args.known.now c.pop.new.self.items c.truncate.new.self.items _ popped c.truncate.ensures.items
+    let low = stack_at c.args.stacks.now c.in-Some.low in
+    let is_low = low_left c.args.known.now (stack_at c.args.stacks.now c.args.stack) low (c.in-Some.y ∷ []) c.requires.low c.in-Some.ensures in
+    low_cut c.args.known.now low (stack_at c.args.stacks.now c.lower-lower.result) _ is_low c.lower-lower.ensures
 
-pub returns-in-None : goal.returns-in-None
-returns-in-None c = λ code body.
-    let none : length c.args.state.items ≡ 0 = search (rules, c.in-None.ensures.cases) in
-    slide_none c.args.known.now c.args.at c.args.state.items code body c.args.k none
-
-pub returns-else-len-k : goal.returns-else-len-k
-returns-else-len-k c = λ code body.
-    let many : c.args.k ≤ length c.pop.new.self.items = search rules in
-    let cut : c.truncate.new.self.items ≡ take (length c.pop.new.self.items - c.args.k) c.pop.new.self.items = search (rules, c.truncate.ensures.items) in
-    IfOk-weaker c.pushed.result _ _ (λ f e. e ∙ slide_is c.args.known.now c.args.at c.args.state.items code body c.args.k c.pop.new.self.items c.truncate.new.self.items c.in-Some.y c.in-Some.ensures.items many cut) c.pushed.ensures
+pub returns-else-height-k : goal.returns-else-height-k
+returns-else-height-k c = λ code body.
+    let low = stack_at c.args.stacks.now c.in-Some.low in
+    let many : c.args.k ≤ length low = omega (arith, c.height-height.ensures.height, c.if-height-k.false) in
+    let cut : stack_at c.args.stacks.now c.lower-lower.result ≡ take (length low - c.args.k) low = c.lower-lower.ensures ∙ ap (λ (n : ℕ). take (n - c.args.k) low) c.height-height.ensures.height in
+    c.pushed.ensures ∙ slide_is c.args.known.now c.args.at (stack_at c.args.stacks.now c.args.stack) code body c.args.k low (stack_at c.args.stacks.now c.lower-lower.result) c.in-Some.y c.in-Some.ensures many cut

@@ -1,6 +1,6 @@
 use Rattle.std.proofs.Common.{◌≡◌, drop}
 use Rattle.std.specs.List.{list_all}
-use Rattle.um_verifier.specs.FlatShapes.{flat_shapes}
+use Rattle.um_stacks.specs.FlatShapes.{flat_shapes}
 use Rattle.um_verifier.specs.KnownImages.{admits}
 use Rattle.um_verifier.proofs.known.Known.admits_all.Given as goal
 

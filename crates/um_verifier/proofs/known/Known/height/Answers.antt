@@ -1,5 +1,5 @@
 use Rattle.std.proofs.Common.{sym, ap, ◌∙◌, ◌+◌, ℕ}
-use Rattle.um_verifier.specs.FlatShapes.{item_shape}
+use Rattle.um_stacks.specs.FlatShapes.{item_shape}
 use Rattle.um_verifier.specs.KnownImages.{known_heights}
 use Rattle.um_verifier.proofs.Taken.{height_in_lists}
 use Rattle.um_verifier.proofs.known.Known.height.Goals as goal

@@ -1,5 +1,5 @@
 use Rattle.std.proofs.Common.{◌≡◌, drop}
-use Rattle.um_verifier.specs.FlatShapes.{flat_shapes}
+use Rattle.um_stacks.specs.FlatShapes.{flat_shapes}
 use Rattle.um_verifier.specs.KnownImages.{known_heights, highest}
 use Rattle.um_verifier.proofs.known.Known.highest.Given as goal
 

@@ -1,0 +1,242 @@
+//! Stacks by their numbers.
+ghost use Rattle.std.specs.Prelude.{◌≡◌, ◌<◌, ◌≤◌, ◌+◌, ◌^◌, ◌++◌, ◌∷◌, [], length, take, slice_get};
+ghost use Rattle.std.specs.Prelude.{IfOk, OnOk, MatchOption};
+ghost use Rattle.um_stacks.specs.Stacks.{stack_at, Grows, IsPartOf, IsNodeOf};
+
+use crate::flat::FlatShape;
+use std::alloc::{AllocError, Global};
+use std::marker::Model;
+
+/// The number of the empty stack.
+pub const EMPTY: u32 = 0;
+
+/// A stack that isn't empty: its top, the number of the stack below the top, its height, and the number of a lower part
+/// to which a search jumps.
+#[derive(Clone, Copy)]
+struct Node {
+    top: FlatShape,
+    below: u32,
+    height: u32,
+    jump: u32,
+}
+
+/// Stacks of shapes, by their numbers: number 0 is the empty stack. Contracts see the list of all stacks. A number that
+/// no stack has stands for the empty one too.
+#[derive(Drop)]
+pub struct Stacks {
+    nodes: Vec<Node>,
+}
+
+impl Model for Stacks {
+    ghost use Rattle.std.specs.Prelude.{List};
+    ghost use Rattle.std.specs.Coded.{coded_list};
+    ghost use Rattle.um_stacks.specs.declared.flat.FlatShape.{FlatShape};
+    ghost use Rattle.um_stacks.specs.contracts.flat.FlatShape.{the_row};
+
+    ghost Value = { List (List FlatShape) };
+
+    ghost coded = { coded_list (coded_list the_row.coded) };
+
+    ghost use Rattle.um_stacks.specs.Stacks.{stacks_of, AreNodes};
+
+    ghost view = { λ stacks. stacks_of stacks.nodes.items };
+
+    ghost invariant = { λ stacks. AreNodes stacks.nodes.items };
+}
+
+impl Stacks {
+    /// The empty stack alone. Takes no memory.
+    pub fn new(alloc: Global) -> Stacks
+        ensures { result ≡ [] ∷ [] }
+    {
+        Stacks {
+            nodes: Vec::new(alloc),
+        }
+    }
+
+    /// How many stacks there are.
+    fn count(&self) -> usize
+        ensures count { result ≡ length self.now }
+        ensures some { 0 < result }
+        ensures few { result ≤ 2 ^ 32 }
+        ensures first { stack_at self.now 0 ≡ [] }
+    {
+        self.nodes.len() + 1
+    }
+
+    /// The node of a stack, if it isn't empty.
+    fn node(&self, stack: u32) -> Option<Node>
+        ensures { MatchOption result (stack_at self.now stack ≡ []) (IsNodeOf self.now stack) }
+    {
+        let count = self.nodes.len();
+        if stack == EMPTY {
+            return None;
+        }
+        let place = stack as usize - 1;
+        if count <= place {
+            return None;
+        }
+        Some(self.nodes[place])
+    }
+
+    /// How many shapes the stack has.
+    pub fn height(&self, stack: u32) -> u32
+        ensures height { result ≡ length (stack_at self.now stack) }
+        ensures few { result ≤ stack }
+    {
+        match self.node(stack) {
+            None => 0,
+            Some(node) => node.height,
+        }
+    }
+
+    /// The shape on the top and the number of the stack below it, if the stack isn't empty.
+    pub fn pop(&self, stack: u32) -> Option<(FlatShape, u32)>
+        ensures { MatchOption result (stack_at self.now stack ≡ [])
+            (λ p. stack_at self.now stack ≡ stack_at self.now p.1 ++ p.0 ∷ []) }
+    {
+        match self.node(stack) {
+            None => None,
+            Some(node) => Some((node.top, node.below)),
+        }
+    }
+
+    /// The two shapes on the top, the deeper first, and the number of the stack below them, if there are two.
+    pub fn pop_two(&self, stack: u32) -> Option<(FlatShape, FlatShape, u32)>
+        ensures { MatchOption result (length (stack_at self.now stack) < 2)
+            (λ p. stack_at self.now stack ≡ stack_at self.now p.2 ++ p.0 ∷ p.1 ∷ []) }
+    {
+        match self.pop(stack) {
+            None => None,
+            Some((y, upper)) => match self.pop(upper) {
+                None => None,
+                Some((x, low)) => Some((x, y, low)),
+            },
+        }
+    }
+
+    /// A lower part of a stack that is at least so high: one step on the way down.
+    fn step_down(&self, stack: u32, height: u32) -> u32
+        requires { height < length (stack_at self.now stack) }
+        ensures lower { result < stack }
+        ensures part { take height (stack_at self.now result) ≡ take height (stack_at self.now stack) }
+    {
+        match self.node(stack) {
+            None => EMPTY,
+            Some(node) => {
+                if self.height(node.jump) >= height {
+                    node.jump
+                } else {
+                    node.below
+                }
+            }
+        }
+    }
+
+    /// The lower part of a stack that has this height, or the whole stack if it isn't higher. It takes time logarithmic
+    /// in the height.
+    pub fn lower(&self, stack: u32, height: u32) -> u32
+        ensures { stack_at self.now result ≡ take height (stack_at self.now stack) }
+    {
+        let mut low = stack;
+        while self.height(low) > height {
+            low = self.step_down(low, height);
+        }
+        low
+    }
+
+    /// The shape at a place, counted from 0 at the bottom, if there is one. It takes time logarithmic in the height.
+    pub fn at(&self, stack: u32, place: u32) -> Option<FlatShape>
+        ensures { result ≡ slice_get (stack_at self.now stack) place }
+    {
+        if self.height(stack) <= place {
+            return None;
+        }
+        match self.pop(self.lower(stack, place + 1)) {
+            None => None,
+            Some((shape, _)) => Some(shape),
+        }
+    }
+
+    /// The number itself if a stack has it, and otherwise that of the empty stack.
+    pub fn known(&self, stack: u32) -> u32
+        ensures number { result < length self.now }
+        ensures stack { stack_at self.now result ≡ stack_at self.now stack }
+    {
+        if (stack as usize) < self.count() {
+            stack
+        } else {
+            EMPTY
+        }
+    }
+
+    /// The lower part from which a search goes on.
+    fn jump(&self, stack: u32) -> u32
+        requires { stack < length self.now }
+        ensures number { result < length self.now }
+        ensures part { IsPartOf (stack_at self.now result) (stack_at self.now stack) }
+    {
+        match self.node(stack) {
+            None => stack,
+            Some(node) => node.jump,
+        }
+    }
+
+    /// Where the jump of a stack goes that is one higher than this one. Jumps pass over 1, 3, 7, 15, .. shapes: over as
+    /// many as two equal jumps below and the top together.
+    fn jump_above(&self, below: u32) -> u32
+        requires { below < length self.now }
+        ensures number { result < length self.now }
+        ensures part { IsPartOf (stack_at self.now result) (stack_at self.now below) }
+    {
+        let first = self.jump(below);
+        let second = self.jump(first);
+        let middle = self.height(first) as u64;
+        if self.height(below) as u64 + self.height(second) as u64 == middle + middle {
+            second
+        } else {
+            below
+        }
+    }
+
+    /// The number of the stack with one more shape on its top. It takes the same time for each stack. Fails for want of
+    /// memory alone, or if there are 2^32 stacks.
+    pub fn push(&mut self, stack: u32, shape: FlatShape) -> Result<u32, AllocError>
+        ensures number { IfOk result (λ number. number < length self.new) }
+        ensures stack { IfOk result (λ number. stack_at self.new number ≡ stack_at self.old stack ++ shape ∷ []) }
+        ensures grows { OnOk result (Grows self.old self.new) }
+    {
+        if self.count() > u32::MAX as usize {
+            return Err(AllocError);
+        }
+        let node = self.node_above(self.known(stack), shape);
+        self.add(node)
+    }
+
+    /// The node of one more stack.
+    fn node_above(&self, below: u32, top: FlatShape) -> Node
+        requires below { below < length self.now }
+        requires few { length self.now < 2 ^ 32 }
+        ensures below { result.below ≡ below }
+        ensures top { result.top ≡ top }
+        ensures node { IsNodeOf (self.now ++ (stack_at self.now below ++ top ∷ []) ∷ []) (length self.now) result }
+    {
+        Node {
+            top,
+            below,
+            height: self.height(below) + 1,
+            jump: self.jump_above(below),
+        }
+    }
+
+    fn add(&mut self, node: Node) -> Result<u32, AllocError>
+        requires few { length self.old < 2 ^ 32 }
+        requires node { IsNodeOf (self.old ++ (stack_at self.old node.below ++ node.top ∷ []) ∷ []) (length self.old)
+            node }
+        ensures number { IfOk result (λ number. number ≡ length self.old) }
+        ensures stacks { OnOk result (self.new ≡ self.old ++ (stack_at self.old node.below ++ node.top ∷ []) ∷ []) }
+    {
+        self.nodes.push(node)?;
+        Ok(self.nodes.len() as u32)
+    }
+}
