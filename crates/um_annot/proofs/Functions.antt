@@ -1,63 +1,42 @@
 -- What is known of a function of a program whose functions have schemes.
-use Rattle.std.proofs.Common.{◌≡◌, ℕ, ◌<◌, ◌≤◌, List, length, slice_get, Some, None, sym, ap, ◌∙◌, subst, arith}
+use Rattle.std.proofs.Common.{◌≡◌, ℕ, ◌<◌, ◌≤◌, List, length, slice_get, Some, sym, ap, ◌∙◌, subst, arith}
 use Rattle.std.specs.Prelude.{All}
-use Rattle.um_units.specs.Variables.{VariablesBelow}
 use Rattle.um_tree.specs.ProgramTree.{FunctionTree, ProgramTree, SchemeTree}
 use Rattle.um_tree.specs.Formed.{IsFormed}
 use Rattle.um_tree.specs.Scheme.{signature_types, variables}
 use Rattle.um_elim.specs.Solution.{rigid_units}
 use Rattle.um_slots.specs.Slots.{slot_count}
-use Rattle.um_equal_types.specs.declared.row.Row.{Row}
 use Rattle.um_equal_types.specs.declared.row.Rows.{Rows}
-use Rattle.um_equal_types.specs.declared.row.RowStop.{RowStop}
-use Rattle.um_equal_types.specs.declared.row.RowStop.TheVariants as row_stop
-use Rattle.um_rows.specs.Answers.{AreEquations, StopsFor, HaveVariablesBelow, rows_signature}
+use Rattle.um_rows.specs.Answers.{AreEquations, rows_signature}
 use Rattle.um_rows.specs.FirstUnsolvable.{solve}
 use Rattle.um_rows.specs.Judgement.{has_scheme, by_rows}
 use Rattle.um_rows.specs.NodeTypes.{TypedNode, function_nodes}
 use Rattle.um_rows.specs.Solutions.{HaveSchemes}
-use Rattle.um_rows.proofs.Solved.{rows_hold_slots, types_hold_slots}
+use Rattle.um_rows.proofs.Solved.{types_hold_slots}
 use Rattle.um_rows.proofs.NodesBelow.{nodes_hold_slots}
 use Rattle.um_infer.specs.Inference.{all_schemes, infer}
 use Rattle.um_infer.proofs.InferenceLaws.{given_schemes_are_principal}
-use Rattle.um_infer.proofs.Judged.{few_slots, rows_below, types_below, parameters_within, own_variables_alone}
+use Rattle.um_infer.proofs.Judged.{few_slots, types_below, parameters_within}
 use Rattle.um_infer.proofs.SchemeLists.{item_at}
-use Rattle.um_infer.proofs.SchemeJudgements.{HasJudgement, schemes_until, scheme_judgement, yes_judged}
+use Rattle.um_infer.proofs.SchemeJudgements.{schemes_until, yes_judged}
 use Rattle.um_annot.specs.TextOrder.{in_text_order}
 use Rattle.um_annot.specs.Annotated.{node_types, by_solving, annotation}
-use Rattle.um_annot.specs.Answers.{IsMemory}
+
+-- the inference gives one list
+pub same_schemes : (p : ProgramTree) (schemes others : List SchemeTree) → infer p ≡ all_schemes schemes → infer p ≡ all_schemes others → schemes ≡ others
+same_schemes p schemes others e f = let both : all_schemes schemes ≡ all_schemes others = sym e ∙ f in cc both
 
 module _ (p : ProgramTree) (formed : IsFormed p) (schemes : List SchemeTree) (inferred : infer p ≡ all_schemes schemes) (i : ℕ) (inside : i < length p.functions) where
   pub have : HaveSchemes p schemes i
   have = schemes_until p formed (length p.functions) i schemes (omega arith) (omega (arith, inside)) inferred
 
-  pub own_variables : HaveVariablesBelow i schemes
-  own_variables = own_variables_alone p schemes i have
-
   pub scheme_at : (s : SchemeTree) × (slice_get schemes i ≡ Some s)
   scheme_at = item_at schemes i (subst (λ n. i < n) (sym (given_schemes_are_principal p formed schemes inferred).count) inside)
 
   module _ (f : FunctionTree) (declared : slice_get p.functions i ≡ Some f) where
-    judgement : HasJudgement (length p.bases) p.records schemes i f (has_scheme scheme_at.0)
-    judgement = scheme_judgement p formed (length p.functions) schemes (omega arith) inferred i inside f declared scheme_at.0 scheme_at.1
-
-    no_slot_stop : 2000 < slot_count p.records schemes i f → ⊥
-    no_slot_stop many = let few = judgement.few in omega (arith, few, many)
-
-    no_range_stop : (at : ℕ) → StopsFor p.records schemes i f (row_stop.Range at) → ⊥
-    no_range_stop at h = cc (sym judgement.in_range ∙ h.1)
-
-    pub memory_alone : (e : RowStop) → StopsFor p.records schemes i f e → IsMemory e
-    memory_alone row_stop.Slots h = no_slot_stop h
-    memory_alone (row_stop.Range at) h = no_range_stop at h
-    memory_alone row_stop.NoMemory h = tt
-
     module _ (r : Rows) (h : AreEquations p.records schemes i f r) where
       pub few : r.slots ≤ 2000
       few = few_slots (length p.bases) p.records schemes i f r h
-
-      pub rows_low : All (λ (row : Row). VariablesBelow r.slots row.unit) r.list.items.items
-      rows_low = rows_below (length p.bases) p.records schemes i f r h (rows_hold_slots p schemes i f have)
 
       pub types_low : All (λ k. k < r.slots) (variables (signature_types (rows_signature r)))
       types_low = types_below (length p.bases) p.records schemes i f r h (types_hold_slots p schemes i f have)

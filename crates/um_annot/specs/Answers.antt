@@ -4,33 +4,19 @@ use Rattle.std.specs.Prelude.{◌≡◌, ℕ, List, [], ◌∷◌, map, Option, 
 use Rattle.um_units.specs.PowerMap.{PowerMap, nth}
 use Rattle.um_tree.specs.TypeTree.{TypeTree}
 use Rattle.um_tree.specs.Typing.{put}
-use Rattle.um_rows.specs.declared.nodes.NodeTypes.{NodeTypes}
-use Rattle.um_equal_types.specs.declared.row.RowStop.{RowStop}
-use Rattle.um_equal_types.specs.declared.row.RowStop.TheVariants as row_stop
-use Rattle.um_rows.specs.NodeTypes.{TypedNode, typed_nodes}
+use Rattle.um_rows.specs.NodeTypes.{TypedNode}
 use Rattle.um_annot.specs.declared.stop.AnnotStop.{AnnotStop}
 use Rattle.um_annot.specs.declared.stop.AnnotStop.TheVariants as stop
 use Rattle.um_annot.specs.TextOrder.{node_with}
 use Rattle.um_annot.specs.Annotated.{Annotation, annotated, past_range}
 
-abbrev pub IsAnnotated : Annotation → Result NodeTypes AnnotStop → Type 0
-IsAnnotated a (Ok nodes) = a ≡ annotated (typed_nodes nodes)
-IsAnnotated a (Err (stop.PowerRange at)) = a ≡ past_range at
-IsAnnotated a (Err stop.NoMemory) = Unit {0}
+-- the nodes are those of the annotation, or the stop is its
+abbrev pub IsAnnotated : Annotation → List TypedNode → Result (Unit {0}) AnnotStop → Type 0
+IsAnnotated a nodes (Ok _) = a ≡ annotated nodes
+IsAnnotated a nodes (Err (stop.PowerRange at)) = a ≡ past_range at
+IsAnnotated a nodes (Err stop.NoMemory) = Unit {0}
 
 -- ---- steps of the code
-
--- the nodes are those of the annotation, or the stop is its
-abbrev pub IsPutAt : Annotation → List TypedNode → Result (Unit {0}) AnnotStop → Type 0
-IsPutAt a nodes (Ok _) = a ≡ annotated nodes
-IsPutAt a nodes (Err (stop.PowerRange at)) = a ≡ past_range at
-IsPutAt a nodes (Err stop.NoMemory) = Unit {0}
-
--- no memory was left for the equations
-abbrev pub IsMemory : RowStop → Type 0
-IsMemory row_stop.Slots = ⊥
-IsMemory (row_stop.Range at) = ⊥
-IsMemory row_stop.NoMemory = Unit {0}
 
 -- the stop is at this place
 abbrev pub StopsAt : Option ℕ → AnnotStop → Type 0

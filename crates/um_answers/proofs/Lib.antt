@@ -1,4 +1,5 @@
 mod AnnotLists
+mod SolvedHere
 mod CodeEntries
 mod SchemesGiven
 mod SchemesPrinted

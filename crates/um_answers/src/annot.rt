@@ -4,6 +4,7 @@ ghost use Rattle.um_tree.specs.ProgramTree.{FunctionTree, SchemeTree, program_tr
 ghost use Rattle.um_tree.specs.Formed.{IsFormed};
 ghost use Rattle.um_infer.specs.Answers.{scheme_trees};
 ghost use Rattle.um_infer.specs.Inference.{all_schemes, infer};
+ghost use Rattle.um_infer.specs.SolvedPrograms.{AreSolvedFunctions, IsSolvedAt};
 ghost use Rattle.um_rows.specs.NodeTypes.{typed_node};
 ghost use Rattle.um_reports.specs.Cursors.{IsAt};
 ghost use Rattle.um_reports.specs.Steps.{line};
@@ -16,7 +17,8 @@ ghost use Rattle.um_answers.specs.AnnotSteps.{AddsFunction, IsPast, StopsListing
 
 use std::alloc::{AllocError, Global};
 use um_annot::{AnnotStop, annotated};
-use um_front::{Answer, Checked, Text, check, function_at};
+use um_front::{Answer, SolvedText, Text, check_solved, function_at};
+use um_infer::SolvedFunction;
 use um_reports::{Cursor, Reply, Status, push_next_place, reply_to_range, start_of_text};
 use um_rows::NodeType;
 use um_shape::Shaped;
@@ -50,36 +52,45 @@ enum ListStop {
 pub fn answer_annot(alloc: Global, text: Text) -> Answer
     ensures { IfOk result (λ reply. AnnotAnswer text reply.text.items reply.status) }
 {
-    match check(alloc, text) {
-        Ok(checked) => reply_annotated(alloc, checked),
+    match check_solved(alloc, text) {
+        Ok(solved) => reply_annotated(alloc, solved),
         Err(refused) => refused,
     }
 }
 
 /// The functions with their nodes.
-fn reply_annotated(alloc: Global, checked: Checked) -> Answer
-    ensures { IfOk result (λ reply. IsAnnotReply checked.text.text.bytes.items (checked_tree checked)
+fn reply_annotated(alloc: Global, text: SolvedText) -> Answer
+    requires { AreSolvedFunctions (program_tree text.checked.text.shaped) (scheme_trees text.checked.schemes)
+        (length (program_tree text.checked.text.shaped).functions) text.functions.items }
+    ensures { IfOk result (λ reply. IsAnnotReply text.checked.text.text.bytes.items (checked_tree text.checked)
         reply.text.items reply.status) }
 {
+    let SolvedText {
+        checked,
+        mut functions,
+    } = text;
     let source = Source {
         alloc,
         bytes: checked.bytes(),
         shaped: checked.shaped(),
         schemes: checked.schemes(),
     };
-    let reply = reply_listing(&source);
+    let reply = reply_listing(&source, &mut functions);
+    drop(functions);
     drop(checked);
     reply
 }
 
-fn reply_listing(source: &Source) -> Answer
-    requires { infer (program_tree source.now.shaped.now) ≡ all_schemes (scheme_trees source.now.schemes.now) }
+fn reply_listing(source: &Source, functions: &mut Vec<SolvedFunction>) -> Answer
+    requires inferred { infer (program_tree source.now.shaped.now) ≡ all_schemes (scheme_trees source.now.schemes.now) }
+    requires solved { AreSolvedFunctions (program_tree source.now.shaped.now) (scheme_trees source.now.schemes.now)
+        (length (program_tree source.now.shaped.now).functions) functions.old.items }
     ensures { IfOk result (λ reply. IsListingReply source.now.bytes.now
         (listing source.now.bytes.now (program_tree source.now.shaped.now) (scheme_trees source.now.schemes.now) 0
         (program_tree source.now.shaped.now).functions (scheme_trees source.now.schemes.now))
         reply.text.items reply.status) }
 {
-    match listing_text(source) {
+    match listing_text(source, functions) {
         Ok(text) => Ok(Reply {
             text,
             status: Status::Done,
@@ -93,8 +104,10 @@ fn reply_listing(source: &Source) -> Answer
 }
 
 /// The lines of all functions.
-fn listing_text(source: &Source) -> Result<Vec<u8>, ListStop>
-    requires { infer (program_tree source.now.shaped.now) ≡ all_schemes (scheme_trees source.now.schemes.now) }
+fn listing_text(source: &Source, functions: &mut Vec<SolvedFunction>) -> Result<Vec<u8>, ListStop>
+    requires inferred { infer (program_tree source.now.shaped.now) ≡ all_schemes (scheme_trees source.now.schemes.now) }
+    requires solved { AreSolvedFunctions (program_tree source.now.shaped.now) (scheme_trees source.now.schemes.now)
+        (length (program_tree source.now.shaped.now).functions) functions.old.items }
     ensures { MatchResult result
         (λ text. listing source.now.bytes.now (program_tree source.now.shaped.now)
         (scheme_trees source.now.schemes.now) 0 (program_tree source.now.shaped.now).functions
@@ -106,7 +119,13 @@ fn listing_text(source: &Source) -> Result<Vec<u8>, ListStop>
     let mut text = Vec::new(source.alloc);
     let mut cursor = start_of_text();
     for i in 0..function_count(source.shaped) {
-        match add_function(source, i, &mut cursor, &mut text) {
+        match add_function(
+            source,
+            i,
+            &mut functions[i as usize],
+            &mut cursor,
+            &mut text,
+        ) {
             Ok(()) => {}
             Err(AnnotStop::PowerRange { at }) => {
                 return Err(ListStop::PowerRange { function: i, at });
@@ -129,11 +148,14 @@ fn function_count(shaped: &Shaped) -> u32
 fn add_function(
     source: &Source,
     i: u32,
+    solved: &mut SolvedFunction,
     cursor: &mut Cursor,
     text: &mut Vec<u8>,
 ) -> Result<(), AnnotStop>
     requires function { i < length (program_tree source.now.shaped.now).functions }
     requires inferred { infer (program_tree source.now.shaped.now) ≡ all_schemes (scheme_trees source.now.schemes.now) }
+    requires solved { IsSolvedAt (program_tree source.now.shaped.now) (scheme_trees source.now.schemes.now) i
+        solved.old }
     requires cursor { IsAt source.now.bytes.now cursor.old }
     ensures cursor { OnOk result (IsAt source.now.bytes.now cursor.new) }
     ensures lines { (f : FunctionTree) (s : SchemeTree)
@@ -147,12 +169,8 @@ fn add_function(
 {
     let program = source.shaped.program();
     add_scheme(source, program, i, text)?;
-    match annotated(source.alloc, source.shaped, i, source.schemes) {
-        Ok(nodes) => {
-            let added = add_nodes(source, program, &nodes.items, cursor, text);
-            drop(nodes);
-            Ok(added?)
-        }
+    match annotated(source.alloc, source.shaped, i, solved) {
+        Ok(()) => Ok(add_nodes(source, program, &solved.typed.nodes.items, cursor, text)?),
         Err(stop) => Err(stop),
     }
 }

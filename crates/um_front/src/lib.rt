@@ -21,7 +21,7 @@ mod text;
 mod tree;
 
 pub use checked::Checked;
-pub use checking::{check, function_at, reply_to_untyped};
+pub use checking::{SolvedText, check, check_solved, function_at, reply_to_untyped};
 pub use laws::{refusals_tell_places, word_refusals_tell_places};
 pub use parts::{CheckedParts, ReadText, ShapedText};
 pub use reading::Reading;

@@ -16,7 +16,7 @@ pub record IsGiven (p : ProgramTree) (schemes : List SchemeTree) (i : ℕ) (s : 
   pub judged : (f : FunctionTree) → slice_get p.functions i ≡ Some f → judge (length p.bases) p.records earlier i f ≡ has_scheme s
 
 -- an item stays where something is put behind
-behind : (xs : List SchemeTree) (x : SchemeTree) (j : ℕ) → j < length xs → slice_get xs j ≡ slice_get (xs ++ x ∷ []) j
+pub behind : (xs : List SchemeTree) (x : SchemeTree) (j : ℕ) → j < length xs → slice_get xs j ≡ slice_get (xs ++ x ∷ []) j
 behind [] x j h = absurd (omega (arith, h))
 behind (y ∷ ys) x zero h = refl
 behind (y ∷ ys) x (suc j) h = behind ys x j (omega (arith, h))

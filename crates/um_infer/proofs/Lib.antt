@@ -17,3 +17,4 @@ pub mod Prefix
 pub mod SameEquations
 pub mod GivenSchemes
 pub mod SchemeJudgements
+mod SolvedFunctions

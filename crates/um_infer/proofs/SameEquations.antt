@@ -11,6 +11,7 @@ use Rattle.um_slots.specs.Slots.{slot_order, slot_unit, slot_count}
 use Rattle.um_rows.specs.Equations.{slot_equations, Equations, own_signature, head_steps, result_rows}
 use Rattle.um_slots.specs.Noted.{noted_types}
 use Rattle.um_rows.specs.Derivation.{derive}
+use Rattle.um_rows.specs.NodeTypes.{TypedNode, derived_nodes, function_nodes}
 use Rattle.um_slots.specs.Callees.{known_function, may_recur, callee, head_holes}
 
 module _ (records : List RecordTree) (i : ℕ) (f : FunctionTree) where
@@ -30,6 +31,13 @@ module _ (records : List RecordTree) (i : ℕ) (f : FunctionTree) where
         result = body.type;
         steps = head_steps holes names f ++ (body.steps ++ result_rows holes names f.at body.type (notes_holes f.params) f.result);
       }
+
+  nodes_by : List Key → (ℕ → Callee) → List TypedNode
+  nodes_by keys c =
+      let order = slot_order keys in
+      let holes : ℕ → PowerMap = λ k. slot_unit order (hole k) in
+      let names : ℕ → PowerMap = λ k. slot_unit order (name k) in
+      derived_nodes (derive holes names records (own_signature holes names f) c (head_holes f) (noted_types holes names 0 f.params) f.body)
 
   module _ (schemes others : List SchemeTree) (same : (j : ℕ) → j < i → slice_get schemes j ≡ slice_get others j) where
     callee_alike : (j : ℕ) → callee schemes i f j ≡ callee others i f j
@@ -53,3 +61,7 @@ module _ (records : List RecordTree) (i : ℕ) (f : FunctionTree) where
 
     pub same_equations : slot_equations records schemes i f ≡ slot_equations records others i f
     same_equations = ap (λ keys. equations_by keys (callee schemes i f)) same_keys ∙ ap (equations_by (function_keys records others i f)) callees
+
+    pub same_nodes : function_nodes records schemes i f ≡ function_nodes records others i f
+    unfolding nodes_by
+    same_nodes = ap (λ keys. nodes_by keys (callee schemes i f)) same_keys ∙ ap (nodes_by (function_keys records others i f)) callees

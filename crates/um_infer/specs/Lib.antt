@@ -8,3 +8,4 @@ pub mod Answers
 -- What mirrors the code: what a refusal becomes, and the steps from rows to a scheme.
 pub mod Refusals
 pub mod Forming
+pub mod SolvedPrograms

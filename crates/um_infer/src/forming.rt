@@ -9,10 +9,11 @@ ghost use Rattle.um_tree.specs.Typing.{put};
 ghost use Rattle.um_tree.specs.Scheme.{signature_types, variables};
 ghost use Rattle.um_elim.specs.Application.{type_fits};
 ghost use Rattle.um_elim.specs.Numbering.{renumbered, variable_order};
+ghost use Rattle.um_elim.specs.Solution.{rigid_units};
 ghost use Rattle.um_equal_types.specs.declared.row.Row.{Row};
 ghost use Rattle.um_rows.specs.Answers.{rows_signature};
 ghost use Rattle.um_rows.specs.Judgement.{by_rows};
-ghost use Rattle.um_infer.specs.Forming.{IsAnswer, RefusesUnless};
+ghost use Rattle.um_infer.specs.Forming.{IsAnswer, IsSolutionOf, RefusesUnless};
 
 use crate::general::general_types;
 use crate::refusal::Refusal;
@@ -41,7 +42,28 @@ pub(crate) fn formed_scheme(
         (rows_signature rows.now) rows.now.list.items.items) result }
 {
     let solver = rigid_solver(alloc, rows.slots, bases, parameters, &rows.list.items)?;
-    let types = solved_types(alloc, &solver, rows, at)?;
+    scheme_by(alloc, &solver, rows, bases, parameters, at)
+}
+
+/// The same by the solver after all rows.
+pub(crate) fn scheme_by(
+    alloc: Global,
+    solver: &Solver,
+    rows: &Rows,
+    bases: u32,
+    parameters: u32,
+    at: u32,
+) -> Result<Scheme, Refusal>
+    requires few { rows.now.slots ≤ 2000 }
+    requires parameters { parameters ≤ rows.now.slots }
+    requires bases { bases + parameters < 2 ^ 32 }
+    requires types { All (λ k. k < rows.now.slots) (variables (signature_types (rows_signature rows.now))) }
+    requires solved { IsSolutionOf rows.now.slots (rigid_units bases parameters rows.now.slots)
+        rows.now.list.items.items solver.now }
+    ensures { IsAnswer (by_rows bases parameters rows.now.slots at
+        (rows_signature rows.now) rows.now.list.items.items) result }
+{
+    let types = solved_types(alloc, solver, rows, at)?;
     let general = general_types(alloc, bases, parameters, rows.slots, types)?;
     Ok(numbered_scheme(alloc, general)?)
 }

@@ -17,11 +17,13 @@ pub mod laws;
 mod program;
 mod refusal;
 mod solution;
+mod solved;
 mod solving;
 mod stop;
 
 pub use call::type_call;
 pub use general::{general_types, generalised_unit};
 pub use program::{infer, infer_first};
-pub use solution::{Solution, most_general};
+pub use solution::signature_by;
+pub use solved::{SolvedFunction, SolvedProgram, infer_solved};
 pub use stop::{CallStop, InferStop};

@@ -81,7 +81,7 @@ pub(crate) fn function_count(shaped: &Shaped) -> u32
 }
 
 /// How many unit parameters function `i` has, and the place of its name.
-fn head_of(shaped: &Shaped, i: u32) -> (u32, u32)
+pub(crate) fn head_of(shaped: &Shaped, i: u32) -> (u32, u32)
     requires { i < length (program_tree shaped.now).functions }
     ensures { (f : FunctionTree) → slice_get (program_tree shaped.now).functions i ≡ Some f → (result.0 ≡ f.units)
         × (result.1 ≡ f.at) }
@@ -99,7 +99,7 @@ pub(crate) fn base_count(shaped: &Shaped) -> u32
 }
 
 /// The refusal of function `i` as the program's.
-fn stop_of(i: u32, refusal: Refusal) -> InferStop
+pub(crate) fn stop_of(i: u32, refusal: Refusal) -> InferStop
     ensures { result ≡ stop_of i refusal }
 {
     match refusal {

@@ -1,4 +1,4 @@
-use Rattle.std.proofs.Common.{◌≡◌}
+use Rattle.std.proofs.Common.{◌≡◌, length, drop}
 use Rattle.um_tree.specs.ProgramTree.{program_tree}
 use Rattle.um_infer.specs.Answers.{scheme_trees}
 use Rattle.um_reports.specs.Cursors.{IsAt}
@@ -11,3 +11,5 @@ invariant-loop-i l =
     IsAt l.source.bytes.now l.cursor
     × (whole l.source.bytes.now (program_tree l.source.shaped.now) (scheme_trees l.source.schemes.now)
     ≡ and_rest l.text.items (left l.source.bytes.now (program_tree l.source.shaped.now) (scheme_trees l.source.schemes.now) l.i))
+    × (length l.functions.items ≡ length (program_tree l.source.shaped.now).functions)
+    × (drop l.i l.functions.items ≡ drop l.i l.fn.functions.items)

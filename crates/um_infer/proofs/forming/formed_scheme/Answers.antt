@@ -1,61 +1,21 @@
-use Rattle.std.proofs.Common.{◌+◌, ◌<◌, ap, ◌∙◌, subst, sym, arith}
-use Rattle.std.specs.Prelude.{All}
-use Rattle.std.proofs.lemmas.List.Elements.{All-weaker}
+use Rattle.std.proofs.Common.{subst}
 use Rattle.std.proofs.lemmas.Result.{err_from_is_err_and}
-use Rattle.um_tree.specs.TypeTree.{type_trees}
-use Rattle.um_tree.specs.ProgramTree.{scheme_tree}
-use Rattle.um_tree.specs.Scheme.{signature_types, variables}
 use Rattle.um_elim.specs.Solution.{rigid_units}
 use Rattle.um_rows.specs.Answers.{rows_signature}
-use Rattle.um_rows.specs.FirstUnsolvable.{solve}
 use Rattle.um_rows.specs.Judgement.{by_rows}
 use Rattle.um_infer.specs.Forming.{IsSolutionOf, IsRefusal}
-use Rattle.um_infer.proofs.FormingSteps.{puts_below, formed_is_judged, past_is_judged}
-use Rattle.um_infer.proofs.GeneralSteps.{types_stay}
 use Rattle.um_infer.proofs.forming.formed_scheme.Goals as goal
 
 pub rigid_solver-requires-clause-variables : goal.rigid_solver-requires-clause-variables
 rigid_solver-requires-clause-variables c = rw c.deref.ensures.value c.requires.rows
 
-pub general_types-requires-clause-variables : goal.general_types-requires-clause-variables
-general_types-requires-clause-variables c =
+pub scheme_by-requires-clause-solved : goal.scheme_by-requires-clause-solved
+scheme_by-requires-clause-solved c =
     let n = c.args.rows.now.slots in
-    let solution : IsSolutionOf n (rigid_units c.args.bases c.args.parameters n) c.deref.result.now c.in_ok-solver.solver = c.in_ok-solver.ensures in
-    let ts = signature_types (rows_signature c.args.rows.now) in
-    let low = puts_below n c.in_ok-solver.solver.units solution.below ts (subst (λ m. All (λ k. k < m) (variables ts)) (sym solution.count) c.requires.types) in
-    subst (λ us. All (λ k. k < n) (variables us)) (sym c.in_ok-types.ensures.solved) low
-
-pub numbered_scheme-requires-clause-variables : goal.numbered_scheme-requires-clause-variables
-numbered_scheme-requires-clause-variables c =
-    let n = c.args.rows.now.slots in
-    let few : n + c.args.parameters < 4294967295 = (let most = c.requires.few in let parameters = c.requires.parameters in omega (arith, most, parameters)) in
-    let solution : IsSolutionOf n (rigid_units c.args.bases c.args.parameters n) c.deref.result.now c.in_ok-solver.solver = c.in_ok-solver.ensures in
-    let ts = signature_types (rows_signature c.args.rows.now) in
-    let low = puts_below n c.in_ok-solver.solver.units solution.below ts (subst (λ m. All (λ k. k < m) (variables ts)) (sym solution.count) c.requires.types) in
-    let here = subst (λ us. All (λ k. k < n) (variables us)) (sym c.in_ok-types.ensures.solved) low in
-    let stays = types_stay c.args.bases c.args.parameters n (type_trees c.in_ok-types.types) here in
-    All-weaker (λ k. k < n + c.args.parameters) (λ k. k < 4294967295) (λ k h. omega (arith, h, few)) (variables (type_trees c.in_ok-general.general))
-    (subst (λ us. All (λ k. k < n + c.args.parameters) (variables us)) (sym c.in_ok-general.ensures) stays)
+    subst (λ rs. IsSolutionOf n (rigid_units c.args.bases c.args.parameters n) rs c.in_ok-solver.solver) c.deref.ensures.value c.in_ok-solver.ensures
 
 pub returns-in_err-solver : goal.returns-in_err-solver
 returns-in_err-solver c =
     let sig = rows_signature c.args.rows.now in
     let p = err_from_is_err_and c.from_residual.result c.from_residual.ensures.1 in
     rw (p.1, p.2) (subst (λ rs. IsRefusal (by_rows c.args.bases c.args.parameters c.args.rows.now.slots c.args.at sig rs) c.in_err-solver.field-0.0) c.deref.ensures.value (c.in_err-solver.ensures c.args.at sig))
-
-pub returns-in_err-types : goal.returns-in_err-types
-returns-in_err-types c =
-    let n = c.args.rows.now.slots in
-    let solution : IsSolutionOf n (rigid_units c.args.bases c.args.parameters n) c.deref.result.now c.in_ok-solver.solver = c.in_ok-solver.ensures in
-    let solves = ap (λ rs. solve 0 rs (rigid_units c.args.bases c.args.parameters n)) (sym c.deref.ensures.value) ∙ solution.solves in
-    let p = err_from_is_err_and c.from_residual-in_err-types.result c.from_residual-in_err-types.ensures.1 in
-    rw (p.1, p.2) (past_is_judged c.args.bases c.args.parameters n c.args.at (rows_signature c.args.rows.now) c.args.rows.now.list.items.items c.in_ok-solver.solver.units solves c.in_err-types.field-0.0 c.in_err-types.ensures.range)
-
-pub returns : goal.returns
-returns c =
-    let n = c.args.rows.now.slots in
-    let solution : IsSolutionOf n (rigid_units c.args.bases c.args.parameters n) c.deref.result.now c.in_ok-solver.solver = c.in_ok-solver.ensures in
-    let rows = c.args.rows.now.list.items.items in
-    let solves = ap (λ rs. solve 0 rs (rigid_units c.args.bases c.args.parameters n)) (sym c.deref.ensures.value) ∙ solution.solves in
-    formed_is_judged c.args.bases c.args.parameters n c.args.at (rows_signature c.args.rows.now) rows c.in_ok-solver.solver.units solves (type_trees c.in_ok-types.types) (type_trees c.in_ok-general.general) (scheme_tree c.in_ok-numbered_scheme.field-0)
-    c.in_ok-types.ensures.solved c.in_ok-types.ensures.range c.in_ok-general.ensures c.in_ok-numbered_scheme.ensures.types c.in_ok-numbered_scheme.ensures.vars
