@@ -24,4 +24,5 @@ pub mod ReadBack
 mod RisingLists
 pub mod UnitOrder
 mod JoinedTexts
+mod FactorTexts
 mod ValueTexts
