@@ -237,18 +237,26 @@ impl Unit {
         ensures exact { IfOk result (λ unit. unit ≡ replace (nth by.now) self.now) }
         ensures range { RangeUnless result (fits (replace (nth by.now) self.now)) }
     {
-        let terms = self.terms();
-        if staying::all_stay(by, terms) {
+        if self.stays(by) {
             return Ok(self.copy(alloc)?);
         }
-        match terms {
+        match self.terms() {
             [term] => short::put_in_power(alloc, by, self, *term),
             [first, second] => short::put_in_pair(alloc, by, self, *first, *second),
             _ => self.replace_terms(alloc, by),
         }
     }
 
-    /// The same, however many terms there are.
+    /// Whether `by` puts for each atom of the unit that atom itself, so that `replace` gives the same unit. Takes no
+    /// memory.
+    pub fn stays(&self, by: &[Unit]) -> bool
+        ensures stays { IsTrue result → replace (nth by.now) self.now ≡ self.now }
+        ensures fits { IsTrue (fits self.now) }
+    {
+        staying::all_stay(by, self.terms())
+    }
+
+    /// The same as `replace`, however many terms there are.
     fn replace_terms(&self, alloc: Global, by: &[Unit]) -> Result<Unit, UnitStop>
         ensures exact { IfOk result (λ unit. unit ≡ replace (nth by.now) self.now) }
         ensures range { RangeUnless result (fits (replace (nth by.now) self.now)) }
