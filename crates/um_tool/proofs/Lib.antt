@@ -17,4 +17,5 @@ pub mod ServedHeadline
 pub mod PrintedImages
 pub mod SignaturesJudged
 pub mod PrintedCertificates
+mod PrintedRefusals
 pub mod UniqueAnswers

@@ -30,7 +30,7 @@ use Rattle.um_tool.specs.CertificateLaws.{EndsProofs, AreCertificates, PrintedCe
 use Rattle.um_tool.proofs.PrintedSchemes.{one_function}
 use Rattle.um_tool.proofs.ShapedTexts.{one_shaped, shaped_is_not_refused, unshaped_once}
 
-prove_ordered : order_of (codes "prove" ∷ []) ≡ Some Prove
+pub prove_ordered : order_of (codes "prove" ∷ []) ≡ Some Prove
 unfolding order_of
 prove_ordered = refl
 
@@ -76,7 +76,7 @@ module _ (p : ProgramTree) (formed : IsFormed p) (proofs : Proofs) (valid : AreP
 
 -- ---- what is printed
 module _ (bytes text : List ℕ) where
-  abbrev ArePrinted : ProgramTree → Type 0
+  abbrev pub ArePrinted : ProgramTree → Type 0
   ArePrinted p = (proofs : Proofs) × AreCertificates p proofs × (text ≡ certificates_text p proofs.yes.items.items proofs.no)
 
   printed : (p : ProgramTree) → IsFormed p → (r : Result Proofs ProveStop) → IsProved p r → IsProofReply bytes p r text Done → ArePrinted p
@@ -86,7 +86,7 @@ module _ (bytes text : List ℕ) where
   printed p formed (Err (prove_stop.CertRange i number)) valid reply = absurd (cc reply.2.1)
   printed p formed (Err prove_stop.NoMemory) valid reply = absurd reply
 
-  printed_of : ProveAnswer bytes text Done → (s : ShapedTree) × IsShapedText bytes s × ArePrinted s.program
+  pub printed_of : ProveAnswer bytes text Done → (s : ShapedTree) × IsShapedText bytes s × ArePrinted s.program
   unfolding ProveAnswer IsProveReply
   printed_of (inl (s, is, (r, valid, reply))) = (s, is, printed s.program (shaped_is_formed bytes s is) r valid reply)
   printed_of (inr unshaped) = absurd (let early = unshaped_early bytes text Done unshaped in cc early)

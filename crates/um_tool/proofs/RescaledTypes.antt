@@ -8,6 +8,7 @@ use Rattle.um_unplaced.specs.Laws.{RescaledTextsAreRead as RescaledTextsAreReadA
 use Rattle.um_same_schemes.specs.Inferences.{unplaced_inference}
 use Rattle.um_same_schemes.specs.Laws.{RescaledProgramsHaveTheSchemes}
 use Rattle.um_orders.specs.declared.order.Order.{Order}
+use Rattle.um_reports.specs.declared.status.Status.{Status}
 use Rattle.um_reports.specs.declared.status.Status.TheVariants.{Done}
 use Rattle.um_front.specs.Stages.{CheckedTree, IsCheckedText}
 use Rattle.um_answers.specs.TypesAnswer.{scheme_lines, TypesAnswer}
@@ -27,12 +28,12 @@ given_schemes (stops_at_range i at) schemes e = absurd (cc e)
 given_schemes (stops_at_units i row at) schemes e = absurd (cc e)
 given_schemes (stops_at_not_general i row at) schemes e = absurd (cc e)
 
-types_answered : (bytes lines : List ℕ) → TypesAnswer bytes lines Done → TypesAnswers bytes lines Done
+pub types_answered : (bytes lines : List ℕ) (status : Status) → TypesAnswer bytes lines status → TypesAnswers bytes lines status
 unfolding Answer
-types_answered bytes lines answer =
-    subst (λ (o : Option Order). MatchOption o (IsUsageReply lines Done) (λ order. ByOrder order (codes "types" ∷ []) bytes lines Done)) (sym types_ordered) answer
+types_answered bytes lines status answer =
+    subst (λ (o : Option Order). MatchOption o (IsUsageReply lines status) (λ order. ByOrder order (codes "types" ∷ []) bytes lines status)) (sym types_ordered) answer
 
-lines_answered : (bytes lines : List ℕ) (c : CheckedTree) → IsCheckedText bytes c → lines ≡ scheme_lines c.text.program c.text.program.functions c.schemes → TypesAnswer bytes lines Done
+pub lines_answered : (bytes lines : List ℕ) (c : CheckedTree) → IsCheckedText bytes c → lines ≡ scheme_lines c.text.program c.text.program.functions c.schemes → TypesAnswer bytes lines Done
 unfolding TypesAnswer
 lines_answered bytes lines c is e = inl (c, is, (e, refl))
 
@@ -49,4 +50,4 @@ rescaled_texts_have_the_schemes read schemes words bytes text ordered answer sho
     let other : CheckedTree = record { text = again; schemes = c.schemes } in
     let is : IsCheckedText text other = record { shaped = new.5 short; inferred = inferred } in
     let lines = scheme_lines p p.functions c.schemes in
-    (lines, types_answered bytes lines (lines_answered bytes lines c s.spelled refl), types_answered text lines (lines_answered text lines other is (sym (lines_stay s.scales p again.program c.schemes alike))))
+    (lines, types_answered bytes lines Done (lines_answered bytes lines c s.spelled refl), types_answered text lines Done (lines_answered text lines other is (sym (lines_stay s.scales p again.program c.schemes alike))))

@@ -12,10 +12,11 @@ use Rattle.um_certificates.specs.CertificateText.{certificates_text}
 use Rattle.um_orders.specs.declared.order.Order.TheVariants.{Prove}
 use Rattle.um_orders.specs.Orders.{order_of}
 use Rattle.um_reports.specs.declared.status.Status.{Status}
-use Rattle.um_reports.specs.declared.status.Status.TheVariants.{Done, CertRange}
-use Rattle.um_reports.specs.Refusals.{IsCertificateReply}
+use Rattle.um_reports.specs.declared.status.Status.TheVariants.{Done, Units, NotGeneral, CertRange}
+use Rattle.um_reports.specs.Refusals.{placed, units_label, not_general_label, IsCertificateReply}
 use Rattle.um_front.specs.Stages.{ShapedTree, IsShapedText}
 use Rattle.um_tool.specs.Answer.{Answer}
+use Rattle.um_tool.specs.Laws.{TypesAnswers}
 
 abbrev pub ProveAnswers : List ℕ → List ℕ → Status → Type 0
 ProveAnswers bytes text status = Answer (codes "prove" ∷ []) bytes text status
@@ -52,6 +53,28 @@ RefusedCertificatesPass =
     (s : ShapedTree) × IsShapedText bytes s
     × ((i : ℕ) × (number : ℤ) × (f : FunctionTree) × (slice_get s.program.functions i ≡ Some f)
     × PassesInFunction s.program i number × IsCertificateReply f.name number text CertRange)
+
+-- ---- certificates and `types`
+
+-- What `types` answers the bytes: schemes, if there is no refusal. Otherwise it names the same function, with the place
+-- of the same row: for its units if the refusal is loose, and as not general if it isn't.
+abbrev pub EndsAsTypes : List ℕ → ProgramTree → ℕ → Option No → Type 0
+EndsAsTypes bytes p n None = (lines : List ℕ) × TypesAnswers bytes lines Done
+EndsAsTypes bytes p n (Some c) =
+    (at : ℕ)
+    × (((c.loose ≡ true) × ((untyped : IsFirstWithoutUnits p n c.last at)
+    × TypesAnswers bytes (placed (units_label untyped.0.function.name) bytes at) Units))
+    ⊎ ((c.loose ≡ false) × ((untyped : IsFirstNotGeneral p n c.last at)
+    × TypesAnswers bytes (placed (not_general_label untyped.0.function.name) bytes at) NotGeneral)))
+
+-- What `prove` prints with status 0 ends as `types` answers.
+abbrev pub PrintedCertificatesEndAsTypes : Type 0
+PrintedCertificatesEndAsTypes =
+    (bytes text : List ℕ) → ProveAnswers bytes text Done →
+    (s : ShapedTree) × IsShapedText bytes s
+    × ((proofs : Proofs) × AreCertificates s.program proofs
+    × (text ≡ certificates_text s.program proofs.yes.items.items proofs.no)
+    × EndsAsTypes bytes s.program (length proofs.schemes.items.items) proofs.no)
 
 -- ---- answers to `prove` are one, but for the certificates
 

@@ -7,7 +7,8 @@ ghost use Rattle.um_tool.specs.ScaleLaws.{RescaledTextsAreRescaled, RescaledText
 ghost use Rattle.um_tool.specs.ScaleLaws.{EndedTwinsAreRelated};
 ghost use Rattle.um_tool.specs.ImageLaws.{PrintedImagesAreVerified, PrintedImagesRunAsMeant};
 ghost use Rattle.um_tool.specs.Verdicts.{SignaturesHaveVerdicts};
-ghost use Rattle.um_tool.specs.CertificateLaws.{PrintedCertificatesAreValid, RefusedCertificatesPass, ProofsAreUnique};
+ghost use Rattle.um_tool.specs.CertificateLaws.{PrintedCertificatesAreValid, PrintedCertificatesEndAsTypes};
+ghost use Rattle.um_tool.specs.CertificateLaws.{RefusedCertificatesPass, ProofsAreUnique};
 ghost use Rattle.um_tool.specs.Headline.{TypesAreSchemesOrFirstUntyped, EachOrderNamesFirstUntyped};
 ghost use Rattle.um_tool.specs.Headline.{FittingCallsAreMeant, UnitsOfArgumentsAreExact, FittingTwinsAreRelated};
 
@@ -84,10 +85,12 @@ pub fn verdicts()
 {}
 
 /// What `prove` printed with status 0 on some bytes are valid certificates of principal schemes of the first functions
-/// of the program that they spell, and of the refusal of the next, if not all have a scheme. A number that it refused
-/// is formed in making the certificate of the function that it names, and is too large for it.
+/// of the program that they spell, and of the refusal of the next, if not all have a scheme. Then `types` names this
+/// function too, with the place of the same row. A number that `prove` refused is formed in making the certificate of
+/// the function that it names, and is too large for it.
 pub fn printed_certificates()
     ensures valid { PrintedCertificatesAreValid }
+    ensures types { PrintedCertificatesEndAsTypes }
     ensures refused { RefusedCertificatesPass }
 {}
 
