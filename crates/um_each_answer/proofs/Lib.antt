@@ -1,0 +1,3 @@
+mod Texts
+mod Stages
+pub mod Answers
