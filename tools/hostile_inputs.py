@@ -111,6 +111,24 @@ def joins(pushes: int, branches: int) -> bytes:
     return image([], [function([*[TRUE] * pushes, *[TRUE, b"\x0d" + number(end)] * branches, RET])])
 
 
+def meetings(pushes: int, addresses: int) -> bytes:
+    """Two stacks of so many values, made apart from one another, which meet at each of so many addresses."""
+    second = 2 + pushes + 2 * addresses + 1
+    first_met = second + pushes + 2 * addresses + 1
+    way = [TRUE] * pushes
+    for place in range(addresses):
+        way += [TRUE, b"\x0d" + number(first_met + place)]
+    return image([], [function([TRUE, b"\x0d" + number(second), *way, RET, *way, RET, *[RET] * addresses])])
+
+
+def lists(pushes: int, branches: int) -> bytes:
+    """So many pushes, and then branches, each of which makes a list of all values on one way."""
+    code = [TRUE] * pushes
+    for branch in range(1, branches + 1):
+        code += [TRUE, b"\x0d" + number(pushes + 5 * branch), b"\x0e" + number(pushes), TRUE, RET]
+    return image([], [function([*code, RET])])
+
+
 def shapes(bytes_: int) -> bytes:
     """Functions whose parameters are lists in lists, 400 high, as many as there is room for."""
     parameter = b"\2" * 399 + b"\1"
@@ -191,6 +209,9 @@ def cases() -> Iterator[Case]:
         yield Case("jumps", f"{count:,} pushes, each with a branch", ["exec", "9", "f"], lambda n=count: jumps(n))
         yield Case("joins", f"{count:,} pushes, {count // 2:,} joins", ["exec", "9", "f"],
                    lambda n=count: joins(n, n // 2))
+    yield Case("joins", "two stacks of 10,000 values that meet at 10,000 addresses", ["exec", "9", "f"],
+               lambda: meetings(10_000, 10_000))
+    yield Case("joins", "10,000 pushes, 10,000 lists of them", ["exec", "9", "f"], lambda: lists(10_000, 10_000))
     yield Case("shapes", "2 MiB of shapes 400 high", ["exec", "9", "f0000000"], lambda: shapes(1 << 21))
     yield Case("shapes", "16 MiB of shapes 400 high", ["exec", "9", "f0000000"], lambda: shapes(IMAGE))
     for levels in (16, 39):

@@ -1,11 +1,14 @@
 -- Joins of stacks, from the top down.
-use Rattle.std.proofs.Common.{◌≡◌, ◌≢◌, refl, sym, ap, ◌∙◌, ℕ, suc, Bool as Truth, true, cond, List, [], ◌∷◌, ◌++◌, length, reverse, Option, Some, None, option_map, arith}
+use Rattle.std.proofs.Common.{◌≡◌, ◌≢◌, refl, sym, ap, ◌∙◌, ℕ, suc, Bool as Truth, true, cond, List, [], ◌∷◌, ◌++◌, length, map, take, reverse, Option, Some, None, option_map, arith, append_assoc, append-nil}
 use Rattle.std.specs.Prelude.{nat_eq}
-use Rattle.std.proofs.lemmas.List.{map-append, map_push}
+use Rattle.std.proofs.lemmas.List.{map_push, reverse-append}
+use Rattle.std.proofs.Math.Seq.{take-append_seam}
 use Rattle.std.proofs.lemmas.Bool.Decides.{nat_tests}
 use Rattle.um_verify.specs.StackShape.{StackShape, void, bool, num, list, made, join, join_cons, join_all}
 use Rattle.um_stacks.specs.FlatShapes.{flat_shape, flat_shapes}
+use Rattle.um_stacks.specs.Stacks.{tops_of, IsPartOf}
 use Rattle.um_stacks.specs.declared.flat.FlatShape.{FlatShape}
+use Rattle.um_stacks.specs.declared.join.Passed.{Passed}
 
 -- ---- the tops
 
@@ -90,13 +93,51 @@ all_itself (x ∷ xs) = (λ i. join_cons (join_itself x i) (all_itself xs i))
 
 -- ---- the way down
 
--- the joins of the tops that were passed stand on what is joined
-abbrev pub onto : List FlatShape → Option (List StackShape) → Option (List StackShape)
-onto tops o = option_map (λ us. us ++ flat_shapes (reverse tops)) o
+tops_push : (passed : List Passed) (p : Passed) → tops_of (passed ++ p ∷ []) ≡ flat_shape p.join ∷ tops_of passed
+tops_push passed p =
+    ap (λ (s : List FlatShape). flat_shapes (reverse s)) (map_push (λ (p : Passed). p.join) passed p) ∙ ap flat_shapes (reverse-append (map (λ (p : Passed). p.join) passed) (p.join ∷ []))
 
--- what is shared is the same stack
-pub onto_same : (tops low under : List FlatShape) (o : Option (List StackShape)) → o ≡ onto tops (join_all (flat_shapes low) (flat_shapes under)) → low ≡ under → Some (flat_shapes (low ++ reverse tops)) ≡ o
-onto_same tops low under o h e =
-    ap Some (map-append flat_shape low (reverse tops))
-    ∙ ap (onto tops) (sym (all_itself (flat_shapes low)) ∙ ap (λ (us : List FlatShape). join_all (flat_shapes low) (flat_shapes us)) e)
-    ∙ sym h
+-- the joins of the tops that were passed stand on what is joined
+abbrev pub onto : List Passed → Option (List StackShape) → Option (List StackShape)
+onto passed o = option_map (λ us. us ++ tops_of passed) o
+
+pub onto_none : (o : Option (List StackShape)) (passed : List Passed) → passed ≡ [] → o ≡ onto passed o
+onto_none o passed h = same o ∙ ap (λ (ps : List Passed). onto ps o) (sym h) where
+  same : (o : Option (List StackShape)) → o ≡ onto [] o
+  same None = refl
+  same (Some us) = ap Some (sym (append-nil us))
+
+onto_pushed : (passed : List Passed) (p : Passed) (o : Option (List StackShape)) → onto passed (option_map (λ us. us ++ flat_shape p.join ∷ []) o) ≡ onto (passed ++ p ∷ []) o
+onto_pushed passed p None = refl
+onto_pushed passed p (Some us) =
+    ap Some (append_assoc us (flat_shape p.join ∷ []) (tops_of passed) ∙ ap (λ (ts : List StackShape). us ++ ts) (sym (tops_push passed p)))
+
+pub onto_more : (passed new : List Passed) (p : Passed) (o q r : Option (List StackShape)) → o ≡ onto passed q → q ≡ option_map (λ us. us ++ flat_shape p.join ∷ []) r → new ≡ passed ++ p ∷ [] → o ≡ onto new r
+onto_more passed new p o q r h k e = h ∙ ap (onto passed) k ∙ onto_pushed passed p r ∙ ap (λ (ps : List Passed). onto ps r) (sym e)
+
+-- what lies below is joined
+pub onto_join : (passed : List Passed) (o q : Option (List StackShape)) (zs : List StackShape) → o ≡ onto passed q → Some zs ≡ q → Some (zs ++ tops_of passed) ≡ o
+onto_join passed o q zs h k = ap (onto passed) k ∙ sym h
+
+pub same_join : (xs ys : List FlatShape) → xs ≡ ys → Some (flat_shapes xs) ≡ join_all (flat_shapes xs) (flat_shapes ys)
+same_join xs ys h = sym (all_itself (flat_shapes xs)) ∙ ap (λ (s : List FlatShape). join_all (flat_shapes xs) (flat_shapes s)) h
+
+pub empty_join : (xs ys : List FlatShape) → length xs ≡ 0 → length xs ≡ length ys → Some (flat_shapes xs) ≡ join_all (flat_shapes xs) (flat_shapes ys)
+empty_join [] [] h k = refl
+empty_join [] (y ∷ ys) h k = absurd (omega arith)
+empty_join (x ∷ xs) ys h k = absurd (omega arith)
+
+-- two lower parts clash
+pub clash_here : (one other low under : List FlatShape) (height : ℕ) → IsPartOf low one → IsPartOf under other → length low ≡ length under → height ≡ length low → None ≡ join_all (flat_shapes low) (flat_shapes under) → None ≡ join_all (flat_shapes (take height one)) (flat_shapes (take height other))
+clash_here one other low under height p q l h k =
+    let a : take height one ≡ low = (λ i. take (h i) (p.1 i)) ∙ take-append_seam low p.0 in
+    let b : take height other ≡ under = (λ i. take ((h ∙ l) i) (q.1 i)) ∙ take-append_seam under q.0 in
+    k ∙ sym (λ i. join_all (flat_shapes (a i)) (flat_shapes (b i)))
+
+-- ---- the way up
+
+pub up_more : (st new : List StackShape) (rest old : List Passed) (p : Passed) → old ≡ rest ++ p ∷ [] → new ≡ st ++ flat_shape p.join ∷ [] → new ++ tops_of rest ≡ st ++ tops_of old
+up_more st new rest old p h k =
+    ap (λ (s : List StackShape). s ++ tops_of rest) k
+    ∙ append_assoc st (flat_shape p.join ∷ []) (tops_of rest)
+    ∙ ap (λ (s : List StackShape). st ++ s) (sym (tops_push rest p) ∙ ap tops_of (sym h))

@@ -3,4 +3,6 @@ mod Nests
 mod Fitting
 mod Nodes
 mod JoinedStacks
+mod KeptJoins
+mod SameShapes
 pub mod Growth

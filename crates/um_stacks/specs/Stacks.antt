@@ -1,10 +1,15 @@
 -- Stacks of shapes by their numbers. This mirrors the code.
 -- Source: this project's own; the jumps are those of E. W. Myers, An applicative random-access stack, 1983.
-use Rattle.std.specs.Prelude.{◌≡◌, ◌<◌, ◌≤◌, ◌+◌, ◌^◌, ℕ, List, [], ◌∷◌, ◌++◌, length, get_or, slice_get, Some}
-use Rattle.um_verify.specs.StackShape.{StackShape}
+use Rattle.std.specs.Prelude.{◌≡◌, ◌<◌, ◌≤◌, ◌+◌, ◌^◌, ℕ, List, [], ◌∷◌, ◌++◌, length, map, take, reverse, get_or, slice_get}
+use Rattle.std.specs.Prelude.{Option, Some, None, MatchOption}
+use Rattle.um_verify.specs.StackShape.{StackShape, join_all}
 use Rattle.um_stacks.specs.FlatShapes.{flat_shapes}
 use Rattle.um_stacks.specs.declared.flat.FlatShape.{FlatShape}
 use Rattle.um_stacks.specs.declared.stacks.Node.{Node}
+use Rattle.um_stacks.specs.declared.stacks.KeptJoin.{KeptJoin}
+use Rattle.um_stacks.specs.declared.join.Passed.{Passed}
+use Rattle.um_stacks.specs.declared.join.Shared.{Shared}
+use Rattle.um_stacks.specs.declared.join.Shared.TheVariants.{Join, Clash}
 
 -- ---- what callers see: all stacks, by their numbers; a number that none has stands for the empty stack
 
@@ -46,3 +51,34 @@ pub record IsNodeOf (stacks : List (List FlatShape)) (k : ℕ) (node : Node) : T
 pub record AreNodes (nodes : List Node) : Type 0 where
   pub few : length nodes < 2 ^ 32
   pub each : (k : ℕ) (node : Node) → slice_get nodes k ≡ Some node → IsNodeOf (stacks_of nodes) (k + 1) node
+
+-- ---- joins
+
+-- the number of the join of two stacks, or that they have none
+abbrev pub IsJoinOf : List (List FlatShape) → ℕ → ℕ → Option ℕ → Type 0
+IsJoinOf stacks one other join =
+    MatchOption join (None ≡ join_all (shapes_at stacks one) (shapes_at stacks other)) (λ k.
+    (k < length stacks) × (Some (shapes_at stacks k) ≡ join_all (shapes_at stacks one) (shapes_at stacks other)))
+
+pub record IsKept (stacks : List (List FlatShape)) (kept : KeptJoin) : Type 0 where
+  pub one : kept.one < length stacks
+  pub other : kept.other < length stacks
+  pub join : IsJoinOf stacks kept.one kept.other kept.join
+
+abbrev pub AreKept : List (List FlatShape) → List KeptJoin → Type 0
+AreKept stacks joins = (k : ℕ) (kept : KeptJoin) → slice_get joins k ≡ Some kept → IsKept stacks kept
+
+-- their lower parts of this height have no join
+abbrev pub ClashUpTo : List (List FlatShape) → ℕ → ℕ → ℕ → Type 0
+ClashUpTo stacks one other height =
+    None ≡ join_all (flat_shapes (take height (stack_at stacks one))) (flat_shapes (take height (stack_at stacks other)))
+
+-- the tops that were passed on the way down two stacks, joined
+abbrev pub tops_of : List Passed → List StackShape
+tops_of passed = flat_shapes (reverse (map (λ p. p.join) passed))
+
+-- what two stacks share below these tops: a number for the join of what lies below, or a height up to which they clash
+abbrev pub IsShared : List (List FlatShape) → ℕ → ℕ → List Passed → Shared → Type 0
+IsShared stacks one other passed (Join k) =
+    Some (shapes_at stacks k ++ tops_of passed) ≡ join_all (shapes_at stacks one) (shapes_at stacks other)
+IsShared stacks one other passed (Clash height) = ClashUpTo stacks one other height

@@ -1,10 +1,13 @@
 //! Stacks by their numbers.
 ghost use Rattle.std.specs.Prelude.{◌≡◌, ◌<◌, ◌≤◌, ◌+◌, ◌^◌, ◌++◌, ◌∷◌, [], length, take, slice_get};
 ghost use Rattle.std.specs.Prelude.{IfOk, OnOk, MatchOption};
-ghost use Rattle.um_stacks.specs.Stacks.{stack_at, Grows, IsPartOf, IsNodeOf};
+ghost use Rattle.std.specs.Bool.{MatchBool};
+ghost use Rattle.um_stacks.specs.Stacks.{stack_at, shapes_at, Grows, IsPartOf, IsNodeOf, IsJoinOf};
+ghost use Rattle.um_stacks.specs.FlatShapes.{flat_shape};
 
 use crate::flat::FlatShape;
 use std::alloc::{AllocError, Global};
+use std::collections::BTreeMap;
 use std::marker::Model;
 
 /// The number of the empty stack.
@@ -20,11 +23,22 @@ struct Node {
     jump: u32,
 }
 
+/// A join that was made: of two stacks, by their numbers. Nothing if they have none.
+#[derive(Clone, Copy)]
+struct KeptJoin {
+    one: u32,
+    other: u32,
+    join: Option<u32>,
+}
+
 /// Stacks of shapes, by their numbers: number 0 is the empty stack. Contracts see the list of all stacks. A number that
 /// no stack has stands for the empty one too.
 #[derive(Drop)]
 pub struct Stacks {
     nodes: Vec<Node>,
+    joins: Vec<KeptJoin>,
+    /// Where the join of two stacks may stand in `joins`.
+    places: BTreeMap<(u32, u32), u32>,
 }
 
 impl Model for Stacks {
@@ -37,11 +51,22 @@ impl Model for Stacks {
 
     ghost coded = { coded_list (coded_list the_row.coded) };
 
-    ghost use Rattle.um_stacks.specs.Stacks.{stacks_of, AreNodes};
+    ghost use Rattle.um_stacks.specs.Stacks.{stacks_of, AreNodes, AreKept};
 
     ghost view = { λ stacks. stacks_of stacks.nodes.items };
 
-    ghost invariant = { λ stacks. AreNodes stacks.nodes.items };
+    ghost invariant = { λ stacks. AreNodes stacks.nodes.items × AreKept (stacks_of stacks.nodes.items)
+        stacks.joins.items };
+}
+
+/// Whether the shapes are the same.
+fn are_same(a: FlatShape, b: FlatShape) -> bool
+    ensures { MatchBool result (flat_shape a ≡ flat_shape b) (0 ≤ a.lists) }
+{
+    if !a.fits(b) {
+        return false;
+    }
+    b.fits(a)
 }
 
 impl Stacks {
@@ -51,6 +76,8 @@ impl Stacks {
     {
         Stacks {
             nodes: Vec::new(alloc),
+            joins: Vec::new(alloc),
+            places: BTreeMap::new(alloc),
         }
     }
 
@@ -136,7 +163,8 @@ impl Stacks {
     /// The lower part of a stack that has this height, or the whole stack if it isn't higher. It takes time logarithmic
     /// in the height.
     pub fn lower(&self, stack: u32, height: u32) -> u32
-        ensures { stack_at self.now result ≡ take height (stack_at self.now stack) }
+        ensures part { stack_at self.now result ≡ take height (stack_at self.now stack) }
+        ensures number { result ≤ stack }
     {
         let mut low = stack;
         while self.height(low) > height {
@@ -238,5 +266,64 @@ impl Stacks {
     {
         self.nodes.push(node)?;
         Ok(self.nodes.len() as u32)
+    }
+
+    /// Whether the stack has this top above this lower part.
+    pub(crate) fn is_push(&self, stack: u32, below: u32, top: FlatShape) -> bool
+        ensures number { MatchBool result (stack < length self.now) (0 ≤ stack) }
+        ensures stack { MatchBool result (shapes_at self.now stack ≡ shapes_at self.now below ++ flat_shape top ∷ [])
+            (0 ≤ stack) }
+    {
+        match self.node(stack) {
+            None => false,
+            Some(node) => {
+                if node.below != below {
+                    return false;
+                }
+                are_same(node.top, top)
+            }
+        }
+    }
+
+    /// The join of two stacks, if it was kept: its number, or that there is none.
+    pub(crate) fn kept_join(&self, one: u32, other: u32) -> Option<Option<u32>>
+        ensures { MatchOption result (0 ≤ one) (IsJoinOf self.now one other) }
+    {
+        let place = match self.places.get(&(one, other)) {
+            None => return None,
+            Some(place) => *place as usize,
+        };
+        if self.joins.len() <= place {
+            return None;
+        }
+        let kept = self.joins[place];
+        if kept.one == one && kept.other == other {
+            Some(kept.join)
+        } else {
+            None
+        }
+    }
+
+    /// Keeps a join, if the two numbers are those of stacks.
+    pub(crate) fn keep_join(
+        &mut self,
+        one: u32,
+        other: u32,
+        join: Option<u32>,
+    ) -> Result<(), AllocError>
+        requires { IsJoinOf self.old one other join }
+        ensures { OnOk result (self.new ≡ self.old) }
+    {
+        let count = self.nodes.len();
+        if count < one as usize || count < other as usize {
+            return Ok(());
+        }
+        let place = self.joins.len();
+        if place >= u32::MAX as usize {
+            return Ok(());
+        }
+        self.joins.push(KeptJoin { one, other, join })?;
+        self.places.insert((one, other), place as u32)?;
+        Ok(())
     }
 }

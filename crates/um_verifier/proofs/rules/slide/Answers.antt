@@ -19,11 +19,11 @@ pub pushed-requires-clause-low : goal.pushed-requires-clause-low
 pushed-requires-clause-low c =
     let low = stack_at c.args.stacks.now c.in-Some.low in
     let is_low = low_left c.args.known.now (stack_at c.args.stacks.now c.args.stack) low (c.in-Some.y ∷ []) c.requires.low c.in-Some.ensures in
-    low_cut c.args.known.now low (stack_at c.args.stacks.now c.lower-lower.result) _ is_low c.lower-lower.ensures
+    low_cut c.args.known.now low (stack_at c.args.stacks.now c.lower-lower.result) _ is_low c.lower-lower.ensures.part
 
 pub returns-else-height-k : goal.returns-else-height-k
 returns-else-height-k c = λ code body.
     let low = stack_at c.args.stacks.now c.in-Some.low in
     let many : c.args.k ≤ length low = omega (arith, c.height-height.ensures.height, c.if-height-k.false) in
-    let cut : stack_at c.args.stacks.now c.lower-lower.result ≡ take (length low - c.args.k) low = c.lower-lower.ensures ∙ ap (λ (n : ℕ). take (n - c.args.k) low) c.height-height.ensures.height in
+    let cut : stack_at c.args.stacks.now c.lower-lower.result ≡ take (length low - c.args.k) low = c.lower-lower.ensures.part ∙ ap (λ (n : ℕ). take (n - c.args.k) low) c.height-height.ensures.height in
     c.pushed.ensures ∙ slide_is c.args.known.now c.args.at (stack_at c.args.stacks.now c.args.stack) code body c.args.k low (stack_at c.args.stacks.now c.lower-lower.result) c.in-Some.y c.in-Some.ensures many cut

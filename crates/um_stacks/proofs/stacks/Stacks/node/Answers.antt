@@ -18,4 +18,4 @@ returns c =
     let n : c.len-count.result ≡ length c.self.inside.nodes.items = c.len-count.ensures ∙ c.self.inside.nodes.ok.0 in
     let within : c.args.stack - 1 < length c.self.inside.nodes.items = omega (arith, n, c.if-count-place.false) in
     let number : (c.args.stack - 1) + 1 ≡ c.args.stack = omega (arith, c.if-stack-eq-EMPTY.false) in
-    node_at c.args.self.now c.self.inside.nodes.items (c.args.stack - 1) c.args.stack c.index.result.now c.self.view_is c.self.invariant within number c.index.ensures
+    node_at c.args.self.now c.self.inside.nodes.items (c.args.stack - 1) c.args.stack c.index.result.now c.self.view_is c.self.invariant.0 within number c.index.ensures

@@ -1,10 +1,10 @@
-use Rattle.std.proofs.Common.{◌≡◌, ◌<◌, ◌++◌, length, reverse, vec_len}
-use Rattle.um_stacks.specs.Stacks.{stack_at, Grows}
+use Rattle.std.proofs.Common.{◌≡◌, ◌<◌, ◌++◌, length, vec_len}
+use Rattle.um_stacks.specs.Stacks.{shapes_at, Grows, tops_of}
 use Rattle.um_stacks.proofs.stacks.Stacks.push_all.Given as goal
 
-abbrev pub invariant-loop-top : goal.invariant-loop-top
-invariant-loop-top l =
-    (l.stack < length l.self) × (stack_at l.self l.stack ++ reverse l.tops.items ≡ stack_at l.fn.self l.low ++ reverse l.fn.tops.items) × (Grows l.fn.self l.self)
+abbrev pub invariant-loop-last : goal.invariant-loop-last
+invariant-loop-last l =
+    (l.stack < length l.self) × (shapes_at l.self l.stack ++ tops_of l.passed.items ≡ shapes_at l.fn.self l.low ++ tops_of l.fn.passed.items) × (Grows l.fn.self l.self)
 
-abbrev pub decreases-loop-top : goal.decreases-loop-top
-decreases-loop-top l = vec_len l.tops
+abbrev pub decreases-loop-last : goal.decreases-loop-last
+decreases-loop-last l = vec_len l.passed
