@@ -1,0 +1,4 @@
+mod Values
+mod Parts
+mod RunWords
+mod Handed

@@ -1,0 +1,3 @@
+-- What a reader must trust, in reading order: what the host hands in and gets, and what its room for a program owns.
+pub mod Embedded
+pub mod Owned
