@@ -1,55 +1,78 @@
-/* The calls of umc.h over the proved call um_page_serve. Nothing here is proved: it hands on what it is handed. */
+/*
+ * The calls of umc.h over the proved calls of crates/um_page and crates/um_embed. Nothing here is proved: it hands on
+ * what it is handed, and lets one thread at a time use an open program.
+ */
 #include "umc.h"
 
+#include <pthread.h>
+#include <stdbool.h>
 #include <stdint.h>
 #include <stdlib.h>
 #include <string.h>
 
+typedef unsigned char byte;
+
+/* An open program, or none if all is zero. What `at` points to is the proved calls' alone. */
+struct held {
+    bool is_open;
+    void *at;
+};
+
 /*
- * The proved call: crates/um_page says what it gives. The words stand in one text, a zero byte between each two. The
- * answer is copied into the room if it fits, and its size is told in any case.
+ * The proved calls: their crates say what each gives. Words stand in one text, a zero byte between each two. The answer
+ * is copied into the room if it fits, and its size is told in any case.
  */
-unsigned char um_page_serve(const unsigned char *words, size_t words_size, const unsigned char *text, size_t text_size,
-                            unsigned char *answer, size_t room, size_t *answer_size);
+byte um_page_serve(const byte *words, size_t words_size, const byte *text, size_t text_size, byte *answer, size_t room,
+                   size_t *answer_size);
+byte umc_embed_open(const byte *text, size_t text_size, struct held *into, byte *answer, size_t room,
+                    size_t *answer_size);
+byte umc_embed_types(struct held *program, byte *answer, size_t room, size_t *answer_size);
+byte umc_embed_call(struct held *program, uint64_t budget, const byte *words, size_t words_size, byte *answer,
+                    size_t room, size_t *answer_size);
+void umc_embed_close(struct held *program);
 
 /* No slice is larger than this. */
 static const size_t MOST = SIZE_MAX / 2;
 /* The room that is tried first. A larger answer is computed twice. */
 static const size_t FIRST_ROOM = 1 << 16;
 
-/* The words in one text, a zero byte between each two; NULL if memory is wanting. */
-static char *joined(const char *const *words, size_t count, size_t *size) {
-    size_t bytes = 0;
-    for (size_t at = 0; at < count; at++) {
-        size_t length = strlen(words[at]);
-        if (length >= MOST - bytes) {
-            return NULL;
-        }
-        bytes += length + 1;
+/* ---- questions */
+
+/* Some bytes, of which there may be none. */
+struct bytes {
+    const void *begin;
+    size_t size;
+};
+
+/* What one of the proved calls is handed, but for the room of its answer. */
+struct question {
+    enum { SERVE, OPEN, TYPES, CALL } call;
+    struct held *program;
+    uint64_t budget;
+    struct bytes words, text;
+};
+
+static int put(const struct question *question, byte *answer, size_t room, size_t *size) {
+    struct bytes words = question->words, text = question->text;
+    switch (question->call) {
+    case SERVE:
+        return um_page_serve(words.begin, words.size, text.begin, text.size, answer, room, size);
+    case OPEN:
+        return umc_embed_open(text.begin, text.size, question->program, answer, room, size);
+    case TYPES:
+        return umc_embed_types(question->program, answer, room, size);
+    default:
+        return umc_embed_call(question->program, question->budget, words.begin, words.size, answer, room, size);
     }
-    char *text = malloc(bytes ? bytes : 1);
-    if (!text) {
-        return NULL;
-    }
-    char *end = text;
-    for (size_t at = 0; at < count; at++) {
-        size_t length = strlen(words[at]) + 1;
-        memcpy(end, words[at], length);
-        end += length;
-    }
-    *size = bytes ? bytes - 1 : 0;
-    return text;
 }
 
 /* Asks with room for so many bytes and a zero byte after them. */
-static int ask(const char *words, size_t words_size, const void *text, size_t text_size, size_t room, char **answer,
-               size_t *size) {
+static int ask(const struct question *question, size_t room, char **answer, size_t *size) {
     char *bytes = room < MOST ? malloc(room + 1) : NULL;
     if (!bytes) {
         return UMC_NO_MEMORY;
     }
-    int status = um_page_serve((const unsigned char *)words, words_size, text ? text : "", text ? text_size : 0,
-                               (unsigned char *)bytes, room, size);
+    int status = put(question, (byte *)bytes, room, size);
     if (status == UMC_NO_MEMORY || *size > room) {
         free(bytes);
     } else {
@@ -67,24 +90,15 @@ static void fit(char **answer, size_t size) {
     }
 }
 
-int umc_answer(const char *const *words, size_t words_count, const void *text, size_t text_size, char **answer,
-               size_t *answer_size) {
-    size_t words_size, size = 0;
-    *answer = NULL;
-    *answer_size = 0;
-    char *line = text_size < MOST ? joined(words, words_count, &words_size) : NULL;
-    if (!line) {
-        return UMC_NO_MEMORY;
+static int answered(const struct question *question, char **answer, size_t *answer_size) {
+    size_t size = 0, room = FIRST_ROOM;
+    if (question->text.size <= (MOST - FIRST_ROOM) / 4) {
+        room += 4 * question->text.size;
     }
-    size_t room = FIRST_ROOM;
-    if (text && text_size <= (MOST - FIRST_ROOM) / 4) {
-        room += 4 * text_size;
-    }
-    int status = ask(line, words_size, text, text_size, room, answer, &size);
+    int status = ask(question, room, answer, &size);
     if (status != UMC_NO_MEMORY && !*answer) {
-        status = ask(line, words_size, text, text_size, size, answer, &size);
+        status = ask(question, size, answer, &size);
     }
-    free(line);
     if (*answer) {
         fit(answer, size);
         *answer_size = size;
@@ -92,82 +106,129 @@ int umc_answer(const char *const *words, size_t words_count, const void *text, s
     return status;
 }
 
+/* ---- words and texts */
+
+/* Copies a word and its zero byte, and gives the end. */
+static char *copied(char *to, const char *word) {
+    size_t size = strlen(word) + 1;
+    memcpy(to, word, size);
+    return to + size;
+}
+
+/* The words in one text, after the first one if it isn't NULL; NULL if memory is wanting. */
+static char *joined(const char *first, const char *const *words, size_t count, size_t *size) {
+    size_t bytes = first ? strlen(first) + 1 : 0;
+    for (size_t at = 0; at < count; at++) {
+        size_t length = strlen(words[at]);
+        if (length >= MOST - bytes) {
+            return NULL;
+        }
+        bytes += length + 1;
+    }
+    char *text = malloc(bytes ? bytes : 1);
+    if (!text) {
+        return NULL;
+    }
+    char *end = first ? copied(text, first) : text;
+    for (size_t at = 0; at < count; at++) {
+        end = copied(end, words[at]);
+    }
+    *size = bytes ? bytes - 1 : 0;
+    return text;
+}
+
+static struct bytes text_of(const void *text, size_t size) {
+    return (struct bytes){text ? text : "", text ? size : 0};
+}
+
+/* ---- the calls of umc.h */
+
+int umc_answer(const char *const *words, size_t words_count, const void *text, size_t text_size, char **answer,
+               size_t *answer_size) {
+    struct question question = {.call = SERVE, .text = text_of(text, text_size)};
+    *answer = NULL;
+    *answer_size = 0;
+    char *line = text_size < MOST ? joined(NULL, words, words_count, &question.words.size) : NULL;
+    if (!line) {
+        return UMC_NO_MEMORY;
+    }
+    question.words.begin = line;
+    int status = answered(&question, answer, answer_size);
+    free(line);
+    return status;
+}
+
 void umc_free(char *answer) {
     free(answer);
 }
 
-/* ---- programs that are open */
-
+/* A thread has the lock while one of the proved calls uses what is held. */
 struct umc_program {
-    size_t size;
-    char text[];
+    pthread_mutex_t lock;
+    struct held held;
 };
-
-static const char *const TYPES[] = {"types"};
 
 int umc_open(const void *text, size_t text_size, umc_program **program, char **answer, size_t *answer_size) {
     *program = NULL;
-    int status = umc_answer(TYPES, 1, text, text_size, answer, answer_size);
-    if (status != UMC_DONE) {
-        return status;
-    }
-    size_t size = text ? text_size : 0; /* no text that is accepted is longer than a mebibyte */
-    umc_program *kept = malloc(sizeof *kept + size);
-    if (!kept) {
-        umc_free(*answer);
-        *answer = NULL;
-        *answer_size = 0;
+    *answer = NULL;
+    *answer_size = 0;
+    umc_program *made = text_size < MOST ? malloc(sizeof *made) : NULL;
+    if (!made) {
         return UMC_NO_MEMORY;
     }
-    kept->size = size;
-    if (size) {
-        memcpy(kept->text, text, size);
+    if (pthread_mutex_init(&made->lock, NULL)) {
+        free(made);
+        return UMC_NO_MEMORY;
     }
-    *program = kept;
+    made->held = (struct held){0};
+    struct question question = {.call = OPEN, .program = &made->held, .text = text_of(text, text_size)};
+    int status = answered(&question, answer, answer_size);
+    if (status == UMC_DONE) {
+        *program = made;
+    } else {
+        umc_close(made);
+    }
+    return status;
+}
+
+/* Asks a question about a program when no other thread does. */
+static int answered_by(const umc_program *shared, struct question *question, char **answer, size_t *answer_size) {
+    umc_program *program = (umc_program *)shared;
+    question->program = &program->held;
+    pthread_mutex_lock(&program->lock);
+    int status = answered(question, answer, answer_size);
+    pthread_mutex_unlock(&program->lock);
     return status;
 }
 
 int umc_types(const umc_program *program, char **answer, size_t *answer_size) {
-    return umc_answer(TYPES, 1, program->text, program->size, answer, answer_size);
-}
-
-/* The digits of a number, at the end of the room. */
-static const char *digits_of(unsigned long number, char *room, size_t room_size) {
-    char *at = room + room_size - 1;
-    *at = '\0';
-    do {
-        *--at = (char)('0' + number % 10);
-        number /= 10;
-    } while (number);
-    return at;
+    struct question question = {.call = TYPES};
+    *answer = NULL;
+    *answer_size = 0;
+    return answered_by(program, &question, answer, answer_size);
 }
 
 int umc_call(const umc_program *program, unsigned long budget, const char *name, const char *const *arguments,
              size_t arguments_count, char **answer, size_t *answer_size) {
-    enum { OWN = 3 };
-    char digits[3 * sizeof budget + 1];
+    struct question question = {.call = CALL, .budget = budget};
     *answer = NULL;
     *answer_size = 0;
-    const char **words = NULL;
-    if (arguments_count < MOST / sizeof *words - OWN) {
-        words = malloc((OWN + arguments_count) * sizeof *words);
-    }
+    char *words = joined(name, arguments, arguments_count, &question.words.size);
     if (!words) {
         return UMC_NO_MEMORY;
     }
-    words[0] = "run";
-    words[1] = digits_of(budget, digits, sizeof digits);
-    words[2] = name;
-    for (size_t at = 0; at < arguments_count; at++) {
-        words[OWN + at] = arguments[at];
-    }
-    int status = umc_answer(words, OWN + arguments_count, program->text, program->size, answer, answer_size);
+    question.words.begin = words;
+    int status = answered_by(program, &question, answer, answer_size);
     free(words);
     return status;
 }
 
 void umc_close(umc_program *program) {
-    free(program);
+    if (program) {
+        umc_embed_close(&program->held);
+        pthread_mutex_destroy(&program->lock);
+        free(program);
+    }
 }
 
 const char *umc_version(void) {

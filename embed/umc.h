@@ -10,8 +10,9 @@
  *     }
  *     umc_free(answer);
  *
- * The library keeps nothing between two calls and has no variables of its own, so any number of threads may call it at
- * once. It reads no file, writes none, and prints nothing. Link it with -lumc, or with libumc.a.
+ * The library keeps nothing between two calls but the programs that are open, and has no variables of its own, so any
+ * number of threads may call it at once. It reads no file, writes none, and prints nothing. Link it with -lumc, or with
+ * libumc.a.
  */
 #ifndef UMC_H
 #define UMC_H
@@ -47,11 +48,14 @@ int umc_answer(const char *const *words, size_t words_count, const void *text, s
 /* Gives the memory of an answer back. NULL is allowed. */
 void umc_free(char *answer);
 
-/* A program that was accepted. Nothing in it changes, so threads may share it. */
+/*
+ * A program that was accepted: it stays checked and compiled. Threads may share it: it answers one of them at a time,
+ * and the others wait. Threads that shall be answered at once open a program each.
+ */
 typedef struct umc_program umc_program;
 
 /*
- * Opens a program, and keeps a copy of its text.
+ * Opens a program: checks and compiles its text, and keeps what comes of it. The text itself isn't needed any longer.
  *
  * Gives the status of `types` on the text, and its answer. If the status is 0, *program is set to the program, which is
  * the caller's, who hands it to umc_close; otherwise it is set to NULL. The rest is as with umc_answer.
@@ -67,12 +71,12 @@ int umc_types(const umc_program *program, char **answer, size_t *answer_size);
  * budget: how many calls the run may make, at most 10,000,000
  * name, arguments, arguments_count: the function's name, and its arguments as they are written in the language
  *
- * In this version the text is read and checked at each call. For many calls of one program ask umc_answer for `calls`.
+ * A call takes time for its words, for the names in the program and for its run; the text isn't looked at again.
  */
 int umc_call(const umc_program *program, unsigned long budget, const char *name, const char *const *arguments,
              size_t arguments_count, char **answer, size_t *answer_size);
 
-/* Lets go of a program. NULL is allowed. */
+/* Lets go of a program, which no thread uses any longer. NULL is allowed. */
 void umc_close(umc_program *program);
 
 /* The version of the library, as "1.0.0". */

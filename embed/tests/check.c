@@ -126,6 +126,10 @@ static void doubling(char *text, int lines) {
     sprintf(end, "  x%d\n", lines - 1);
 }
 
+static int is_long(const char *answer, size_t size) {
+    return answer && size > 100000 && strlen(answer) == size && strcmp(answer + size - 3, "]]\n") == 0;
+}
+
 /* An answer that is longer than the room that is tried first. */
 static void check_long(void) {
     char text[1024], *answer;
@@ -133,9 +137,15 @@ static void check_long(void) {
     const char *words[] = {"run", "1", "f", "1"};
     doubling(text, 16);
     check(umc_answer(words, 4, text, strlen(text), &answer, &size) == 0, "the status of a long answer");
-    check(answer && size > 100000 && strlen(answer) == size && strcmp(answer + size - 3, "]]\n") == 0,
-          "a long answer as a whole");
+    check(is_long(answer, size), "a long answer as a whole");
     umc_free(answer);
+    umc_program *program;
+    check(umc_open(text, strlen(text), &program, &answer, &size) == 0, "a program with long answers");
+    umc_free(answer);
+    check(umc_call(program, 1, "f", words + 3, 1, &answer, &size) == 0 && is_long(answer, size),
+          "a long answer of an open program");
+    umc_free(answer);
+    umc_close(program);
 }
 
 /* Each allocation fails, alone and with all after it: the whole answer comes, or none for want of memory. */
@@ -247,6 +257,32 @@ static void check_program_failures(void) {
     printf("open: %ld allocations, %ld of %ld refused\n", calls, refused, 2 * calls);
 }
 
+/* A call that memory is wanting for leaves the program open. */
+static void check_call_failures(void) {
+    umc_program *program;
+    const char *argument = "[1<m>; 2.5<m>]";
+    char *answer;
+    size_t size;
+    check(umc_open(VEHICLE, strlen(VEHICLE), &program, &answer, &size) == 0, "a program to call");
+    umc_free(answer);
+    asked = 0;
+    umc_call(program, 9, "total", &argument, 1, &answer, &size);
+    umc_free(answer);
+    long calls = asked, refused = 0;
+    for (long at = 1; at <= calls; at++) {
+        asked = 0;
+        fail_at = at;
+        int status = umc_call(program, 9, "total", &argument, 1, &answer, &size);
+        fail_at = 0;
+        refused += status == UMC_NO_MEMORY && !answer && !size;
+        umc_free(answer);
+        check(is_open_well(program), "an open program after a failed allocation");
+    }
+    umc_close(program);
+    check(calls > 6 && refused > 0, "that allocations fail");
+    printf("call: %ld allocations, %ld refused\n", calls, refused);
+}
+
 static void *of_thread(void *given) {
     long wrong = 0;
     for (int time = 0; time < TIMES; time++) {
@@ -285,6 +321,7 @@ int main(void) {
     check_failures(QUESTIONS + 5);
     check_programs();
     check_program_failures();
+    check_call_failures();
     check_threads();
     puts(failed ? "failed" : "all well");
     return failed;

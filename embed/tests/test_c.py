@@ -18,13 +18,13 @@ def test_answers_under_the_checkers(libraries, tmp_path, checker):
     """The calls of umc.h are compiled with the checker too, so that it sees their accesses."""
     flags = [] if checker == "none" else [f"-fsanitize={checker}", "-fno-sanitize-recover=all"]
     sources = [CHECK, HOME / "embed/umc.c", HOME / "embed/heap.c"] if flags else [CHECK]
-    library = STATIC if flags else libraries / "libumc.a"
+    library = STATIC if flags else [libraries / "libumc.a"]
     made = tmp_path / "check"
-    done("cc", *WARNINGS, *flags, f'-DUMC_VERSION="{VERSION}"', f"-I{HOME}/embed", *sources, library, WRAP, "-pthread",
+    done("cc", *WARNINGS, *flags, f'-DUMC_VERSION="{VERSION}"', f"-I{HOME}/embed", *sources, *library, WRAP, "-pthread",
          "-o", made)
     said = done(made)
     assert said.splitlines()[-1] == "all well"
-    assert len(re.findall(r"^\w+: [0-9]+ allocations", said, re.M)) == 4
+    assert len(re.findall(r"^\w+: [0-9]+ allocations", said, re.M)) == 5
 
 
 def test_the_header_is_c_and_cpp(tmp_path):
@@ -47,7 +47,7 @@ def test_nothing_but_the_calls_has_a_name_for_others(libraries):
 
 
 def test_the_library_has_no_variables(libraries):
-    """Every datum is read-only, so threads share nothing but the C library's heap."""
+    """Every datum is read-only, so threads share nothing but the C library's heap and programs that are handed on."""
     found = done("size", "-A", libraries / "libumc.a")
     sizes = {parts[0]: int(parts[1]) for parts in map(str.split, found.splitlines())
              if len(parts) >= 2 and parts[1].isdigit()}
@@ -56,11 +56,12 @@ def test_the_library_has_no_variables(libraries):
     assert [name for name, size in sizes.items() if size and written.match(name)] == []
 
 
-def test_it_asks_the_system_for_memory_alone(libraries):
+def test_it_asks_the_system_for_memory_and_locks_alone(libraries):
     """It opens no file, starts no process and prints nothing, since it names no call that could."""
     asked = {name.partition("@")[0] for kind, name in symbols("-D", "--undefined-only", libraries / SONAME)
              if kind == "U"}
-    assert asked <= {"malloc", "realloc", "free", "memcpy", "memmove", "memset", "memcmp", "bcmp", "strlen"}
+    locks = {f"pthread_mutex_{name}" for name in ("init", "lock", "unlock", "destroy")}
+    assert asked <= {"malloc", "realloc", "free", "memcpy", "memmove", "memset", "memcmp", "bcmp", "strlen"} | locks
 
 
 def test_its_answers_are_those_of_the_program(libraries):
@@ -83,5 +84,5 @@ def test_a_library_that_the_system_finds_tells_its_file(libraries):
 
 
 def test_the_makefile_says_what_is_missing():
-    ran = subprocess.run(["make", "-C", str(HOME / "embed"), "LIBRARY=none.a"], capture_output=True, text=True)
+    ran = subprocess.run(["make", "-C", str(HOME / "embed"), "STATIC=none.a"], capture_output=True, text=True)
     assert ran.returncode == 2 and "embed/build" in ran.stderr

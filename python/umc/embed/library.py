@@ -2,11 +2,13 @@
 import ctypes
 import ctypes.util
 import os
+import re
 import resource
 import sys
 from collections.abc import Sequence
-from functools import cache
+from functools import cache, cached_property
 from pathlib import Path
+from typing import Any
 
 from umc.embed.engines import PROBES, UNKNOWN_WORDS, Handle, TextHandle
 from umc.errors import Unavailable, WordsTooLong
@@ -16,6 +18,7 @@ NAME = "libumc.so.1"
 STACK = 8 << 20
 VARIABLE = "UMC_LIBRARY"
 NO_LIBRARY = ("", "none")
+IS_BUDGET = re.compile("[0-9]{1,8}")
 
 
 def folders() -> list[Path]:
@@ -65,12 +68,17 @@ class Library:
         try:
             self._calls = ctypes.CDLL(found)
             self._answer, self._free = self._calls.umc_answer, self._calls.umc_free
+            self._open, self._call, self._close = self._calls.umc_open, self._calls.umc_call, self._calls.umc_close
         except (OSError, AttributeError) as fault:
             raise Unavailable(f"{found}: {fault}") from fault
-        self._answer.restype = ctypes.c_int
-        self._answer.argtypes = [ctypes.POINTER(ctypes.c_char_p), ctypes.c_size_t, ctypes.c_char_p, ctypes.c_size_t,
-                                 ctypes.POINTER(ctypes.c_void_p), ctypes.POINTER(ctypes.c_size_t)]
-        self._free.restype, self._free.argtypes = None, [ctypes.c_void_p]
+        text: list[Any] = [ctypes.c_char_p, ctypes.c_size_t]
+        words: list[Any] = [ctypes.POINTER(ctypes.c_char_p), ctypes.c_size_t]
+        answer: list[Any] = [ctypes.POINTER(ctypes.c_void_p), ctypes.POINTER(ctypes.c_size_t)]
+        self._answer.argtypes = [*words, *text, *answer]
+        self._open.argtypes = [*text, ctypes.POINTER(ctypes.c_void_p), *answer]
+        self._call.argtypes = [ctypes.c_void_p, ctypes.c_ulong, ctypes.c_char_p, *words, *answer]
+        self._free.argtypes = self._close.argtypes = [ctypes.c_void_p]
+        self._free.restype = self._close.restype = None
         self.path = Path(found) if "/" in found else loaded(found)
 
     def __repr__(self) -> str:
@@ -82,19 +90,83 @@ class Library:
 
     def answer(self, words: Sequence[str], text: bytes) -> Answer:
         """The library's answer to these words about a text. Other threads run meanwhile."""
-        if any("\0" in word for word in words):
-            raise WordsTooLong("no word may hold the character 0")
-        handed = (ctypes.c_char_p * len(words))(*[word.encode("utf-8", "surrogateescape") for word in words])
+        given = encoded(words)
         begin, size = ctypes.c_void_p(), ctypes.c_size_t()
-        status = self._answer(handed, len(words), text, len(text), ctypes.byref(begin), ctypes.byref(size))
+        status = self._answer((ctypes.c_char_p * len(given))(*given), len(given), text, len(text),
+                              ctypes.byref(begin), ctypes.byref(size))
+        return self._taken(status, begin, size)
+
+    def open(self, text: bytes) -> Handle:
+        """A handle on this text. The library keeps the program checked and compiled from the first question on."""
+        return OpenHandle(self, text)
+
+    def _taken(self, status: int, begin: ctypes.c_void_p, size: ctypes.c_size_t) -> Answer:
+        """An answer of the library, whose memory it gets back."""
         try:
             return Answer(status, ctypes.string_at(begin, size.value) if begin else b"")
         finally:
             self._free(begin)
 
-    def open(self, text: bytes) -> Handle:
-        """A handle on this text."""
-        return TextHandle(self, text)
+
+def encoded(words: Sequence[str]) -> list[bytes]:
+    """The words as the library takes them."""
+    if "\0" in "".join(words):
+        raise WordsTooLong("no word may hold the character 0")
+    return [word.encode("utf-8", "surrogateescape") for word in words]
+
+
+class Kept:
+    """A program that the library keeps open until nothing refers to it; none if the text is refused.
+
+    answer: what the library answers to `types`
+    """
+
+    def __init__(self, library: Library, text: bytes):
+        self._library, self._program = library, ctypes.c_void_p()
+        begin, size = ctypes.c_void_p(), ctypes.c_size_t()
+        status = library._open(text, len(text), ctypes.byref(self._program), ctypes.byref(begin), ctypes.byref(size))
+        self.answer = library._taken(status, begin, size)
+
+    def __bool__(self) -> bool:
+        return bool(self._program)
+
+    def call(self, budget: int, words: Sequence[str]) -> Answer:
+        """The answer to a call. Other threads run meanwhile, but for those that call the same program."""
+        name, *given = encoded(words)
+        begin, size = ctypes.c_void_p(), ctypes.c_size_t()
+        status = self._library._call(self._program, budget, name, (ctypes.c_char_p * len(given))(*given), len(given),
+                                     ctypes.byref(begin), ctypes.byref(size))
+        return self._library._taken(status, begin, size)
+
+    def __del__(self) -> None:
+        self._library._close(self._program)
+
+
+class OpenHandle(TextHandle):
+    """A handle of the library. After `close` the next question opens the program again."""
+
+    def __init__(self, library: Library, text: bytes):
+        super().__init__(library, text)
+        self._library = library
+
+    @cached_property
+    def _kept(self) -> Kept:
+        return Kept(self._library, self._text)
+
+    def ask(self, words: Sequence[str]) -> Answer:
+        """The answer of a command on the text."""
+        return self._kept.answer if list(words) == ["types"] else super().ask(words)
+
+    def call(self, budget: str, words: Sequence[str]) -> Answer:
+        """The answer to one call."""
+        kept = self._kept   # a thread that calls keeps it open
+        if kept and IS_BUDGET.fullmatch(budget):
+            return kept.call(int(budget), words)
+        return super().call(budget, words)
+
+    def close(self) -> None:
+        """Lets go of the program, once no thread calls it."""
+        self.__dict__.pop("_kept", None)
 
 
 @cache
