@@ -24,11 +24,10 @@ use Rattle.core.proofs.atomic.Steps.{Ptr-Good}
 use Rattle.core.proofs.cell.Inside.{Good}
 use Rattle.std_alloc.specs.Box.Ownership.{box_owns}
 use Rattle.std_alloc.proofs.ResultValues.{and_tt}
-use Rattle.um_embed.specs.Owned.{opened_owns}
+use Rattle.um_embed.specs.Owned.{freed, opened_owns}
 use Rattle.um_embed.specs.contracts.loose.Loose as loose
 use Rattle.um_embed.specs.contracts.opened.Opened as opened
 use Rattle.um_embed.specs.contracts.program.Program as program
-use Rattle.libc.specs.Heap.{chunk}
 
 abbrev pub both : Val → Val → Val
 both v w = vstruct (vcons v (vcons w vnil))
@@ -83,6 +82,6 @@ module _ {M : Type 1} {𝓤 : Ura M} {𝓛 : Logic 𝓤} {K : Type 0} {Γ : List
 
   -- what is owned tells whether there is a box
   pub either_owned : K → (y : Bool) (p : Ptr) (x : List ℕ) → (y ≡ false → Seq K 𝓛 Γ G)
-      → (y ≡ true → Seq K 𝓛 (‵ (box_owns chunk opened.the_row p x) ∷ Γ) G) → Seq K 𝓛 (‵ (opened_owns y p x) ∷ Γ) G
+      → (y ≡ true → Seq K 𝓛 (‵ (box_owns freed opened.the_row p x) ∷ Γ) G) → Seq K 𝓛 (‵ (opened_owns y p x) ∷ Γ) G
   either_owned t true p x none one = one refl
   either_owned t false p x none one = drop t $ none refl

@@ -34,7 +34,7 @@ use Rattle.std.specs.contracts.impls.GlobalAllocator.TheImpl.{ghosts}
 use Rattle.std.proofs.raw_atomic.Walks.{proved_at, leaves}
 use Rattle.std_alloc.proofs.ResultValues.{and_tt}
 use Rattle.std_alloc.specs.Box.Ownership.{box_owns}
-use Rattle.libc.specs.Heap.{chunk}
+use Rattle.um_embed.specs.Owned.{freed}
 use Rattle.um_embed.specs.contracts.opened.Opened as opened
 use Rattle.um_embed.proofs.Values.{both, Loose, loose_good, loose_in, Program, held, held_good, program_out, either_owned}
 use Rattle.um_embed.specs.contracts.program.Program.into_loose.{ended, clauses}
@@ -66,7 +66,7 @@ into_loose_spec 𝓤 𝓛 𝓜 𝓡 wired =
     use0 𝓛 (raw (fact 𝓤 (v.is_open ≡ false))) (fact_i 𝓤 (v.is_open ≡ false) (emp 𝓤) shut) $ use0 𝓛 (‵ (Out.own_val None (live 0 vnil ∷ []))) (none_of 𝓛 Lr) $ nothing ! $ nothing ! $ fjoin ! $ nothing ! $ fjoin ! $
     -- [nothing of the parameters; the result; the fact; the handle; nothing; the tokens; ..]
     returns ! (look_at ! 0 refl) $ free_all ! refl $ keep ! (5 ∷ 0 ∷ 1 ∷ 2 ∷ []) $ by ! (leaves 𝓛 ended hs c z (live 0 vnil) None (tt, (tt, tt)) (tt, (tt, tt))))))
-    (λ is_so. in_a_block ! v.at (λ p. box_owns chunk R p v.text) (fst∗ 𝓤 (never 𝓤) (sem 𝓛 (chunk (bare (lone R.mir)) null_ptr))) (λ b o e.
+    (λ is_so. in_a_block ! v.at (λ p. box_owns freed R p v.text) (fst∗ 𝓤 (never 𝓤) (sem 𝓛 (freed (bare (lone R.mir)) null_ptr))) (λ b o e.
     let w : Val = held true (block_ptr b o) in let made : Val = both (vptr b o) h.0 in let typed = loose_good R Z LZ ghosts b o h.0 h.2 in let some : Val = live 1 (vcons made vnil) in
     let d : Lr.Denot = record { at = block_ptr b o; alloc = a; value = v.text } in let good : Good (layout Out) some = (and_tt _ typed.0, (record { fits = lit< tt }, (typed.1, tt))) in
     suffices ! (Run (w ∷ h.0 ∷ [])) (enters w (ws ∙ (λ j. held (is_so j) (e j) ∷ []))) $
