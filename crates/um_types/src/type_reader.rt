@@ -11,7 +11,6 @@ ghost use Rattle.um_types.specs.TypeMachine.{type_finish, type_least, owner_heig
 ghost use Rattle.um_types.specs.TypeView.{operand_type, view_owner, type_state, IsLow};
 ghost use Rattle.um_types.specs.NoteView.{note_state};
 
-use um_unit_texts::GREATEST_HEIGHT;
 use crate::note_reader::NoteReader;
 use crate::type_operand::{Owner, TypeFocus, TypeOperand};
 use std::alloc::{AllocError, Global};
@@ -19,6 +18,7 @@ use std::mem;
 use um_reader::Taken;
 use um_syntax::{Keyword, Kind, Symbol, Token};
 use um_tree::{RawNote, RawType};
+use um_unit_texts::GREATEST_HEIGHT;
 
 /// A type text that has begun: the number of open brackets, what stands inside them, and the note that is read, if one
 /// has begun.
