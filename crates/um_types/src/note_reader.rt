@@ -7,12 +7,12 @@ ghost use Rattle.um_unit_texts.specs.UnitView.{unit_state};
 ghost use Rattle.um_types.specs.NoteMachine.{NeedNote, InUnit, noted, note_finish, machine_of_notes};
 ghost use Rattle.um_types.specs.NoteView.{note_state};
 
-use um_unit_texts::{Operand, UnitReader, is_foreign};
 use std::alloc::{AllocError, Global};
 use std::mem;
 use um_reader::{Reader, Taken};
 use um_syntax::{Kind, Token};
 use um_tree::{RawNote, RawUnit};
+use um_unit_texts::{Operand, UnitReader, is_foreign};
 
 /// What was read of a note: nothing, `_`, or a unit text at this place, which is an atom so far or has gone on.
 #[derive(Drop)]

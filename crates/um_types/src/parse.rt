@@ -10,13 +10,13 @@ ghost use Rattle.um_types.specs.SignatureGrammar.{IsSignature};
 ghost use Rattle.um_types.specs.UnitParsed.{Parsed};
 ghost use Rattle.um_types.specs.SignatureParsed.{SignatureParsed};
 
-use um_unit_texts::{UnitReader, place};
 use crate::signature_reader::SignatureReader;
 use std::alloc::Global;
 use thiserror::Error;
 use um_reader::{ReadStop, read, read_all};
 use um_syntax::Token;
 use um_tree::{RawTypes, RawUnit};
+use um_unit_texts::{UnitReader, place};
 
 /// A limit of the language.
 #[derive(Clone, Copy, Debug, PartialEq, Eq)]

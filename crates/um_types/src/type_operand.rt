@@ -5,10 +5,10 @@ ghost use Rattle.um_tree.specs.RawTree.{note_syntax, type_syntax};
 ghost use Rattle.um_tree.specs.Heights.{type_height};
 ghost use Rattle.um_unit_texts.specs.UnitStops.{greatest_height};
 
-use um_unit_texts::name_of;
 use std::alloc::{AllocError, Global};
 use um_syntax::Letters;
 use um_tree::{Name, RawNote, RawNotes, RawType};
+use um_unit_texts::name_of;
 
 /// A type text and its height.
 #[derive(Drop)]
