@@ -15,3 +15,4 @@ mod LimitLaws
 mod ProgramSteps
 mod Front
 mod ProgramParsed
+mod EachList

@@ -1,6 +1,6 @@
 mod Firsts
 mod Scalars
-mod NameTests
+pub mod NameTests
 mod TakenNames
 mod OverRecords
 mod RecordHeads
