@@ -7,6 +7,7 @@ pub mod Encoded
 pub mod Printed
 pub mod GapsAgain
 pub mod NearFeeds
+pub mod NearEdges
 pub mod PlacedComments
 pub mod GapComments
 pub mod StandAgain

@@ -6,6 +6,7 @@
 #![tactic(auto)]
 
 mod comments;
+mod edges;
 mod feed;
 mod gap;
 pub mod laws;
