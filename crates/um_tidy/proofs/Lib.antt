@@ -9,6 +9,8 @@ pub mod GapsAgain
 pub mod NearFeeds
 pub mod NearEdges
 pub mod PlacedComments
+pub mod Margins
+pub mod Whites
 pub mod GapComments
 pub mod StandAgain
 pub mod Anew

@@ -1,10 +1,10 @@
 -- The comments of a gap below a line, by their places.
-use Rattle.std.proofs.Common.{◌≡◌, refl, sym, ap, ◌∙◌, ℕ, zero, suc, ◌+◌, ◌-◌, ◌<◌, ◌≤◌, ◌==◌, Bool, true, false, cond, not, List, [], ◌∷◌, ◌++◌, length, take, drop, get_or, append_assoc, eqb-true, inl, inr, arith}
+use Rattle.std.proofs.Common.{◌≡◌, refl, sym, ap, ◌∙◌, ℕ, zero, suc, ◌+◌, ◌-◌, ◌<◌, ◌≤◌, Bool, true, false, cond, not, List, [], ◌∷◌, ◌++◌, length, take, drop, get_or, append_assoc, eqb-true, inl, inr, arith}
 use Rattle.std.proofs.lemmas.Bool.{false≢true, cases_eq, cases_lt}
 use Rattle.std.specs.List.{prefix_len}
 use Rattle.std.specs.Prelude.{slice_range}
 use Rattle.std.proofs.Math.Seq.{take-add}
-use Rattle.std.proofs.lemmas.List.{append-nil, take_all, take_more, take-take, replicate_more, drop_more, drop-drop, drop-take, length-drop, length-take-le, get_or-take, get_or-drop}
+use Rattle.std.proofs.lemmas.List.{take-take, drop_more, drop-drop, drop-take, length-drop, length-take-le, get_or-take, get_or-drop}
 use Rattle.std.proofs.lemmas.List.Sums.{prefix_len_is, prefix_len_passes, prefix_len_stops}
 use Rattle.um_syntax.specs.Gap.{is_space}
 use Rattle.um_syntax.specs.LineColumn.{is_line_feed}
@@ -15,22 +15,21 @@ use Rattle.um_tidy.specs.Placed.{is_edge, NoEdges, below_blank, front, lines_fro
 use Rattle.um_tidy.proofs.Lines.{cut_at, line_and_more}
 use Rattle.um_tidy.proofs.BlankLines.{prefix_past, past_feed}
 use Rattle.um_tidy.proofs.GapLines.{kept_other}
-use Rattle.um_tidy.proofs.GapsAgain.{width_spaces}
 use Rattle.um_tidy.proofs.Trimmed.{trimmed_all}
 
 -- ---- spaces
 
-pub spaces_more : (xs : List ℕ) (n d : ℕ) → n < length xs → (get_or xs n d == 32) ≡ true → take n xs ≡ spaces n → take (n + 1) xs ≡ spaces (n + 1)
-spaces_more xs n d some here so_far =
-    take_more xs n d some ∙ (λ i. so_far i ++ eqb-true (get_or xs n d) 32 here i ∷ []) ∙ replicate_more n 32
+pub spaces_join : (m n : ℕ) → spaces m ++ spaces n ≡ spaces (m + n)
+spaces_join zero n = let same : n ≡ zero + n = omega arith in ap spaces same
+spaces_join (suc m) n = let next : suc (m + n) ≡ suc m + n = omega arith in ap (λ xs. 32 ∷ xs) (spaces_join m n) ∙ ap spaces next
 
--- four spaces, and then the others
-pub four_spaces : (text more : List ℕ) (left : ℕ) → 4 ≤ left → more ≡ text ++ (32 ∷ 32 ∷ 32 ∷ 32 ∷ []) → more ++ spaces (left - 4) ≡ text ++ spaces left
-four_spaces text more left some added =
-    let all : suc (suc (suc (suc (left - 4)))) ≡ left = omega (arith, some) in
-    ap (λ xs. xs ++ spaces (left - 4)) added
-    ∙ append_assoc text (32 ∷ 32 ∷ 32 ∷ 32 ∷ []) (spaces (left - 4))
-    ∙ ap (λ n. text ++ spaces n) all
+-- some spaces, and then the others
+pub spaces_left : (text more : List ℕ) (some left : ℕ) → some ≤ left → more ≡ text ++ spaces some → more ++ spaces (left - some) ≡ text ++ spaces left
+spaces_left text more some left fit added =
+    let all : some + (left - some) ≡ left = omega (arith, fit) in
+    ap (λ xs. xs ++ spaces (left - some)) added
+    ∙ append_assoc text (spaces some) (spaces (left - some))
+    ∙ ap (λ xs. text ++ xs) (spaces_join some (left - some) ∙ ap spaces all)
 
 -- ---- parts of a gap
 
@@ -63,7 +62,7 @@ kept_on text xs a b c first second =
 
 -- ---- blank lines
 
-blank_kept : (xs : List ℕ) (at line n : ℕ) → n ≡ line - at → at ≤ line → n < 2 → line ≤ length xs → (at < line → get_or xs (line - 1) 0 ≡ 10) → slice_range xs at line ≡ blank_line (below_blank n)
+pub blank_kept : (xs : List ℕ) (at line n : ℕ) → n ≡ line - at → at ≤ line → n < 2 → line ≤ length xs → (at < line → get_or xs (line - 1) 0 ≡ 10) → slice_range xs at line ≡ blank_line (below_blank n)
 blank_kept xs at line zero is order few within blank = let same : line ≡ at = omega (arith, is, order) in ap (slice_range xs at) same ∙ part_none xs at
 blank_kept xs at line (suc zero) is order few within blank =
     let next : line ≡ at + 1 = omega (arith, is) in
@@ -72,53 +71,6 @@ blank_kept xs at line (suc zero) is order few within blank =
     ∙ part_one xs at (omega (arith, next, within))
     ∙ ap (λ c. c ∷ []) (ap (λ k. get_or xs k 0) here ∙ blank (omega (arith, next)))
 blank_kept xs at line (suc (suc n)) is order few within blank = absurd (omega (arith, few))
-
-pub blank_stays : (text xs : List ℕ) (from at line : ℕ) → from ≤ at → at ≤ line → line - at < 2 → line ≤ length xs → (at < line → get_or xs (line - 1) 0 ≡ 10)
-    → text ++ slice_range xs from line ≡ (text ++ slice_range xs from at) ++ blank_line (below_blank (line - at))
-blank_stays text xs from at line first order few within blank =
-    kept_on text xs from at line first order
-    ∙ ap (λ ys. (text ++ slice_range xs from at) ++ ys) (blank_kept xs at line (line - at) refl order few within blank)
-
-two_blank : (n : ℕ) → 2 ≤ n → blank_line (below_blank n) ≡ 10 ∷ []
-two_blank zero many = absurd (omega (arith, many))
-two_blank (suc n) many = refl
-
-pub blank_added : (text last xs : List ℕ) (from at line : ℕ) → last ≡ text ++ slice_range xs from at → 2 ≤ line - at → line ≤ length xs → (at < line → get_or xs (line - 1) 0 ≡ 10)
-    → last ++ slice_range xs (line - 1) line ≡ (text ++ slice_range xs from at) ++ blank_line (below_blank (line - at))
-blank_added text last xs from at line kept many within blank =
-    let some : at < line = omega (arith, many) in
-    let next : line ≡ line - 1 + 1 = omega (arith, some) in
-    let one : slice_range xs (line - 1) line ≡ 10 ∷ [] = ap (slice_range xs (line - 1)) next ∙ part_one xs (line - 1) (omega (arith, some, within)) ∙ ap (λ c. c ∷ []) (blank some) in
-    λ i. kept i ++ (one ∙ sym (two_blank (line - at) many)) i
-
--- ---- the margin
-
-pub margin_stays : (text xs : List ℕ) (from line start n : ℕ) → from ≤ line → line ≤ start → n ≡ length (slice_range xs line start) → take n (slice_range xs line start) ≡ spaces n
-    → text ++ slice_range xs from start ≡ (text ++ slice_range xs from line) ++ spaces (width_from 0 (slice_range xs line start))
-margin_stays text xs from line start n first order size spaced =
-    let margin = slice_range xs line start in
-    let alone : margin ≡ spaces n = sym (take_all n margin (omega (arith, size))) ∙ spaced in
-    let wide : width_from 0 margin ≡ n = ap (width_from 0) alone ∙ width_spaces 0 n ∙ omega arith in
-    kept_on text xs from line start first order
-    ∙ ap (λ ys. (text ++ slice_range xs from line) ++ ys) (alone ∙ sym (ap spaces wide))
-
-pub margin_added : (text more last xs : List ℕ) (from line start n : ℕ) → more ≡ text ++ slice_range xs from line → n ≡ width_from 0 (slice_range xs line start) → last ≡ more ++ spaces n
-    → last ++ slice_range xs start start ≡ (text ++ slice_range xs from line) ++ spaces (width_from 0 (slice_range xs line start))
-margin_added text more last xs from line start n kept wide added =
-    ap (λ ys. last ++ ys) (part_none xs start)
-    ∙ append-nil last
-    ∙ added
-    ∙ (λ i. kept i ++ spaces (wide i))
-
--- the blank lines, and then the margin
-pub front_added : (text more last xs : List ℕ) (from at line start : ℕ)
-    → more ≡ (text ++ slice_range xs from at) ++ blank_line (below_blank (line - at))
-    → last ≡ more ++ spaces (width_from 0 (slice_range xs line start))
-    → last ≡ (text ++ slice_range xs from at) ++ front xs at line start
-front_added text more last xs from at line start blank margin =
-    margin
-    ∙ ap (λ ys. ys ++ spaces (width_from 0 (slice_range xs line start))) blank
-    ∙ append_assoc (text ++ slice_range xs from at) (blank_line (below_blank (line - at))) (spaces (width_from 0 (slice_range xs line start)))
 
 -- ---- the end of a line
 
@@ -283,16 +235,6 @@ front_is last gap at line start first second space some no_feed blank =
     let order : start ≤ feed = omega arith in
     row_laid_out gap at line start feed first second order some space refl no_feed last blank
     ∙ ap (λ ys. front gap at line start ++ ys) (sym (comment_here last gap start feed order some (begins_other gap at line start feed first second order some space refl no_feed) refl))
-
--- what was added with white space, and the comment after it
-pub front_goes_on : (last : Above → List ℕ → List ℕ) (text more gap : List ℕ) (from next at line start : ℕ)
-    → more ++ slice_range gap next start ≡ (text ++ slice_range gap from at) ++ front gap at line start
-    → lines_from last gap at ≡ front gap at line start ++ lines_from last gap start
-    → (more ++ slice_range gap next start) ++ lines_from last gap start ≡ (text ++ slice_range gap from at) ++ lines_from last gap at
-front_goes_on last text more gap from next at line start added is =
-    ap (λ ys. ys ++ lines_from last gap start) added
-    ∙ append_assoc (text ++ slice_range gap from at) (front gap at line start) (lines_from last gap start)
-    ∙ ap (λ ys. (text ++ slice_range gap from at) ++ ys) (sym is)
 
 -- ---- where a comment begins
 

@@ -5,11 +5,13 @@ ghost use Rattle.std.specs.List.{prefix_len};
 ghost use Rattle.um_syntax.specs.Gap.{is_space};
 ghost use Rattle.um_tidy.specs.declared.gap.Above.{Above};
 ghost use Rattle.um_tidy.specs.declared.gap.Above.TheVariants.{Line};
-ghost use Rattle.um_tidy.specs.Gaps.{in_line, lines, width_from, blank_line, spaces, each_line};
-ghost use Rattle.um_tidy.specs.Placed.{below_blank, front, lines_from};
+ghost use Rattle.um_tidy.specs.Gaps.{in_line, lines, each_line};
+ghost use Rattle.um_tidy.specs.Placed.{below_blank, front, lines_from, IsMargin};
 
 use crate::edges::first_edge;
-use crate::gap::{Above, push_spaces, space_end, trimmed_len, width};
+use crate::gap::{Above, push_blank_line, push_spaces};
+use crate::margin::{Margin, margin_at};
+use crate::white::trimmed_len;
 use memchr::memrchr;
 use std::alloc::AllocError;
 
@@ -20,8 +22,8 @@ struct Edge {
     end: usize,
     /// Where the comment's line ends.
     feed: usize,
-    /// Where the white space ends.
-    start: usize,
+    /// The white space of the lines below it.
+    margin: Margin,
 }
 
 /// Adds the comments of a gap, if it follows a line, and tells how many bytes their lines take.
@@ -52,12 +54,12 @@ fn push_comments_below(text: &mut Vec<u8>, gap: &[u8]) -> Result<usize, AllocErr
     let Some(last) = memrchr(b'\n', gap) else {
         return Ok(0);
     };
-    let start = space_end(gap, 0);
-    if last < start {
+    let margin = margin_at(gap, 0);
+    if last < margin.end {
         return Ok(0);
     }
-    let from = push_front(text, gap, 0, 0, start)?;
-    push_comments_from(text, gap, from, start, last)
+    let from = push_front(text, 0, margin)?;
+    push_comments_from(text, gap, from, margin.end, last)
 }
 
 /// The same from the start of a comment on. The bytes from `from` to it stay as they are, and aren't added yet.
@@ -81,9 +83,9 @@ fn push_comments_from(
 {
     let mut from = from;
     let mut edge = edge_after(gap, start, last);
-    'edges: while edge.start < last {
+    'edges: while edge.margin.end < last {
         from = push_edge(text, gap, from, edge)?;
-        edge = edge_after(gap, edge.start, last);
+        edge = edge_after(gap, edge.margin.end, last);
     }
     let from = push_end(text, gap, from, edge.end, edge.feed)?;
     text.extend_from_slice(&gap[from..edge.feed + 1])?;
@@ -92,14 +94,15 @@ fn push_comments_from(
 
 /// The first edge after the start of a comment. What stands before it stays as it is.
 fn edge_after(gap: &[u8], start: usize, last: usize) -> Edge
+    requires short { length gap.now ≤ 1048576 }
     requires order { start < last }
     requires within { last < length gap.now }
     requires ends { get_or gap.now last 0 ≡ 10 }
     requires begins { is_space (get_or gap.now start 0) ≡ false }
-    ensures order { (start < result.end) × (result.end ≤ result.feed) × (result.feed < result.start) }
-    ensures within { (result.feed ≤ last) × (result.start ≤ length gap.now) }
+    ensures order { (start < result.end) × (result.end ≤ result.feed) × (result.feed ≤ last) }
     ensures feed { get_or gap.now result.feed 0 ≡ 10 }
-    ensures space { result.feed + 1 + prefix_len is_space (drop (result.feed + 1) gap.now) ≡ result.start }
+    ensures margin { IsMargin gap.now (result.feed + 1) result.margin }
+    ensures space { result.feed + 1 + prefix_len is_space (drop (result.feed + 1) gap.now) ≡ result.margin.end }
     ensures stays { (last : Above → List ℕ → List ℕ) → lines_from last gap.now start
         ≡ slice_range gap.now start result.end ++ 10 ∷ lines_from last gap.now (result.feed + 1) }
 {
@@ -107,115 +110,59 @@ fn edge_after(gap: &[u8], start: usize, last: usize) -> Edge
     Edge {
         end: start + trimmed_len(&gap[start..feed]),
         feed,
-        start: space_end(gap, feed + 1),
+        margin: margin_at(gap, feed + 1),
     }
 }
 
 /// Adds a comment with the white space after it, up to the place that is told. From there to the next one all stays.
 fn push_edge(text: &mut Vec<u8>, gap: &[u8], from: usize, edge: Edge) -> Result<usize, AllocError>
-    requires short { length gap.now ≤ 1048576 }
     requires from { from ≤ edge.end }
-    requires order { (edge.end ≤ edge.feed) × (edge.feed < edge.start) }
+    requires order { (edge.end ≤ edge.feed) × (edge.feed < length gap.now) }
     requires feed { get_or gap.now edge.feed 0 ≡ 10 }
-    requires space { edge.feed + 1 + prefix_len is_space (drop (edge.feed + 1) gap.now) ≡ edge.start }
-    requires ended { edge.start + prefix_len in_line (drop edge.start gap.now) < length gap.now }
-    ensures within { IfOk result (λ next. next ≤ edge.start) }
+    requires margin { IsMargin gap.now (edge.feed + 1) edge.margin }
+    requires space { edge.feed + 1 + prefix_len is_space (drop (edge.feed + 1) gap.now) ≡ edge.margin.end }
+    requires ended { edge.margin.end + prefix_len in_line (drop edge.margin.end gap.now) < length gap.now }
+    ensures within { IfOk result (λ next. next ≤ edge.margin.end) }
     ensures added { IfOk result (λ next. (last : Above → List ℕ → List ℕ)
-        → (text.new.items ++ slice_range gap.now next edge.start) ++ lines_from last gap.now edge.start
+        → (text.new.items ++ slice_range gap.now next edge.margin.end) ++ lines_from last gap.now edge.margin.end
         ≡ (text.old.items ++ slice_range gap.now from edge.end)
         ++ 10 ∷ lines_from last gap.now (edge.feed + 1)) }
 {
-    let from = push_end(text, gap, from, edge.end, edge.feed)?;
-    push_front(text, gap, from, edge.feed + 1, edge.start)
+    let at = edge.feed + 1;
+    let margin = edge.margin;
+    if margin.plain && margin.line - at < 2 {
+        return push_end(text, gap, from, edge.end, edge.feed);
+    }
+    text.extend_from_slice(&gap[from..edge.end])?;
+    text.extend_from_slice(b"\n")?;
+    push_front(text, at, margin)
 }
 
-/// Adds the blank lines and the margin before a comment, up to the place that is told.
-fn push_front(
-    text: &mut Vec<u8>,
-    gap: &[u8],
-    from: usize,
-    at: usize,
-    start: usize,
-) -> Result<usize, AllocError>
-    requires short { length gap.now ≤ 1048576 }
-    requires from { from ≤ at }
-    requires space { at + prefix_len is_space (drop at gap.now) ≡ start }
-    requires ended { start + prefix_len in_line (drop start gap.now) < length gap.now }
-    ensures within { IfOk result (λ next. next ≤ start) }
-    ensures added { IfOk result (λ next. (last : Above → List ℕ → List ℕ)
-        → (text.new.items ++ slice_range gap.now next start) ++ lines_from last gap.now start
-        ≡ (text.old.items ++ slice_range gap.now from at) ++ lines_from last gap.now at) }
+/// Adds the blank lines and the margin before a comment, up to the place that is told. From there on all stays.
+fn push_front(text: &mut Vec<u8>, at: usize, margin: Margin) -> Result<usize, AllocError>
+    requires from { at ≤ margin.line }
+    requires order { margin.line ≤ margin.end }
+    ensures within { IfOk result (λ next. next ≤ margin.end) }
+    ensures added { IfOk result (λ next. (gap : List ℕ) → IsMargin gap at margin
+        → text.new.items ++ slice_range gap next margin.end ≡ text.old.items ++ front gap at margin.line margin.end) }
 {
-    if start == at {
-        return Ok(from);
+    let blank = margin.line - at;
+    if margin.plain && blank > 0 {
+        return Ok(margin.line - 1);
     }
-    let line = line_start(gap, at, start);
-    let from = push_blank_lines(text, gap, from, at, line)?;
-    push_margin(text, gap, from, line, start)
+    push_blank_line(text, below_blank(blank))?;
+    push_spaces(text, margin.width)?;
+    Ok(margin.end)
 }
 
-/// Where the line of a place begins, if not before another place.
-fn line_start(gap: &[u8], from: usize, to: usize) -> usize
-    requires ordered { from ≤ to }
-    requires within { to ≤ length gap.now }
-    ensures order { (from ≤ result) × (result ≤ to) }
-    ensures blank { from < result → get_or gap.now (result - 1) 0 ≡ 10 }
-    ensures line { (k : ℕ) → result ≤ k → k < to → in_line (get_or gap.now k 0) ≡ true }
+/// What stands above what follows so many bytes of blank lines below a line.
+fn below_blank(len: usize) -> Above
+    ensures { result ≡ below_blank len }
 {
-    match memrchr(b'\n', &gap[from..to]) {
-        Some(len) => from + len + 1,
-        None => from,
+    match len {
+        0 => Above::Line,
+        _ => Above::Blank,
     }
-}
-/// Adds blank lines as one, if several stand there or one with white space.
-#[tactic(auto, using(crate::proofs::PlacedComments::blank_stays, crate::proofs::PlacedComments::blank_added))]
-fn push_blank_lines(
-    text: &mut Vec<u8>,
-    gap: &[u8],
-    from: usize,
-    at: usize,
-    line: usize,
-) -> Result<usize, AllocError>
-    requires from { from ≤ at }
-    requires order { at ≤ line }
-    requires within { line ≤ length gap.now }
-    requires blank { at < line → get_or gap.now (line - 1) 0 ≡ 10 }
-    ensures within { IfOk result (λ next. next ≤ line) }
-    ensures added { IfOk result (λ next. text.new.items ++ slice_range gap.now next line
-        ≡ (text.old.items ++ slice_range gap.now from at) ++ blank_line (below_blank (line - at))) }
-{
-    let blank = line - at;
-    if blank < 2 {
-        return Ok(from);
-    }
-    text.extend_from_slice(&gap[from..at])?;
-    Ok(line - 1)
-}
-
-/// Adds the white space before a comment as spaces, unless it is spaces alone.
-#[tactic(auto, using(crate::proofs::PlacedComments::margin_stays, crate::proofs::PlacedComments::margin_added))]
-fn push_margin(
-    text: &mut Vec<u8>,
-    gap: &[u8],
-    from: usize,
-    line: usize,
-    start: usize,
-) -> Result<usize, AllocError>
-    requires short { length gap.now ≤ 1048576 }
-    requires from { from ≤ line }
-    requires order { line ≤ start }
-    requires within { start ≤ length gap.now }
-    ensures within { IfOk result (λ next. next ≤ start) }
-    ensures added { IfOk result (λ next. text.new.items ++ slice_range gap.now next start
-        ≡ (text.old.items ++ slice_range gap.now from line) ++ spaces (width_from 0 (slice_range gap.now line start))) }
-{
-    let margin = &gap[line..start];
-    if front_len(margin) == margin.len() {
-        return Ok(from);
-    }
-    text.extend_from_slice(&gap[from..line])?;
-    push_spaces(text, width(margin))?;
-    Ok(start)
 }
 
 /// Adds the end of a comment without the white space after it, if there is any.
@@ -240,17 +187,4 @@ fn push_end(
     }
     text.extend_from_slice(&gap[from..end])?;
     Ok(feed)
-}
-
-/// How many spaces stand at the front.
-#[tactic(auto, using(crate::proofs::PlacedComments::spaces_more))]
-fn front_len(line: &[u8]) -> usize
-    ensures within { result ≤ length line.now }
-    ensures spaces { take result line.now ≡ spaces result }
-{
-    let mut len = 0;
-    while len < line.len() && line[len] == b' ' {
-        len += 1;
-    }
-    len
 }

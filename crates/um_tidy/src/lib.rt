@@ -10,8 +10,10 @@ mod edges;
 mod feed;
 mod gap;
 pub mod laws;
+mod margin;
 mod spacing;
 mod stand;
 mod text;
+mod white;
 
 pub use text::tidy_text;

@@ -11,7 +11,7 @@ returns-clause-order c =
     let size = part_size gap c.args.start feed (omega (arith, before, c.requires.within)) in
     let few = c.trimmed_len.ensures.within in
     let here = ends_here gap c.args.start feed c.trimmed_len.result (omega (arith, after)) (omega (arith, before, c.requires.within)) c.requires.begins (omega (arith, after, size, few)) c.trimmed_len.ensures.kept in
-    (omega (arith, here.some), omega (arith, after, size, few), omega (arith, c.space_end.ensures.within))
+    (omega (arith, here.some), omega (arith, after, size, few), before)
 
 pub returns-clause-stays : goal.returns-clause-stays
 returns-clause-stays c =

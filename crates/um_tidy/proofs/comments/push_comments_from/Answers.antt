@@ -1,4 +1,4 @@
-use Rattle.std.proofs.Common.{sym, ap, ◌∙◌, ◌+◌, ◌++◌, ◌∷◌, arith}
+use Rattle.std.proofs.Common.{ap, ◌∙◌, ◌+◌, ◌++◌, ◌∷◌, arith}
 use Rattle.std.specs.Prelude.{slice_range}
 use Rattle.um_tidy.specs.Placed.{lines_from}
 use Rattle.um_tidy.proofs.PlacedComments.{begins_here, stays_on, feed_goes_on}
@@ -12,7 +12,7 @@ edges-init c =
     record {
       from = omega (arith, first, c.requires.from);
       order = (second, third);
-      within = edge.within;
+      margin = edge.margin;
       feed = edge.feed;
       space = edge.space;
       added = λ last. stays_on c.args.text.now.items gap (lines_from last gap c.args.start) (10 ∷ lines_from last gap (c.edge_after-edge.result.feed + 1)) c.args.from c.args.start c.edge_after-edge.result.end c.requires.from (omega (arith, first)) (edge.stays last);
@@ -21,12 +21,12 @@ edges-init c =
 pub push_edge-requires-clause-ended : goal.push_edge-requires-clause-ended
 push_edge-requires-clause-ended c =
     let l = c.edges in
-    (begins_here c.args.gap.now (l.edge.feed + 1) l.edge.start c.args.last l.invariant.space (omega arith) c.requires.within c.requires.ends).ended
+    (begins_here c.args.gap.now (l.edge.feed + 1) l.edge.margin.end c.args.last l.invariant.space (omega arith) c.requires.within c.requires.ends).ended
 
 pub edge_after-edge-requires-in-edges-clause-begins : goal.edge_after-edge-requires-in-edges-clause-begins
 edge_after-edge-requires-in-edges-clause-begins c =
     let l = c.edges in
-    (begins_here c.args.gap.now (l.edge.feed + 1) l.edge.start c.args.last l.invariant.space (omega arith) c.requires.within c.requires.ends).other
+    (begins_here c.args.gap.now (l.edge.feed + 1) l.edge.margin.end c.args.last l.invariant.space (omega arith) c.requires.within c.requires.ends).other
 
 pub edges-preserved : goal.edges-preserved
 edges-preserved c =
@@ -37,11 +37,11 @@ edges-preserved c =
     record {
       from = omega (arith, first, c.in_ok-from.ensures.within);
       order = (second, third);
-      within = edge.within;
+      margin = edge.margin;
       feed = edge.feed;
       space = edge.space;
       added = λ last.
-          stays_on c.push_edge.new.text.items gap (lines_from last gap l.edge.start) (10 ∷ lines_from last gap (c.edge_after-edge-in-edges.result.feed + 1)) c.in_ok-from.from l.edge.start c.edge_after-edge-in-edges.result.end c.in_ok-from.ensures.within (omega (arith, first)) (edge.stays last)
+          stays_on c.push_edge.new.text.items gap (lines_from last gap l.edge.margin.end) (10 ∷ lines_from last gap (c.edge_after-edge-in-edges.result.feed + 1)) c.in_ok-from.from l.edge.margin.end c.edge_after-edge-in-edges.result.end c.in_ok-from.ensures.within (omega (arith, first)) (edge.stays last)
           ∙ c.in_ok-from.ensures.added last
           ∙ l.invariant.added last;
     }

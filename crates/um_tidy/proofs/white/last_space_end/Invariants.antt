@@ -1,7 +1,7 @@
 use Rattle.std.proofs.Common.{◌≡◌, ◌≤◌, ◌-◌, ◌+◌, length, drop}
 use Rattle.std.specs.List.{prefix_len}
 use Rattle.um_syntax.specs.Gap.{is_space}
-use Rattle.um_tidy.proofs.gap.space_end.Given as goal
+use Rattle.um_tidy.proofs.white.last_space_end.Given as goal
 
 abbrev pub invariant-loop-end : goal.invariant-loop-end
 invariant-loop-end l = record {

@@ -1,6 +1,6 @@
 use Rattle.std.proofs.Common.{◌≡◌, ◌≤◌, length, take}
 use Rattle.um_tidy.specs.Gaps.{trimmed}
-use Rattle.um_tidy.proofs.gap.trimmed_len.Given as goal
+use Rattle.um_tidy.proofs.white.trimmed_more.Given as goal
 
 abbrev pub invariant-loop-len : goal.invariant-loop-len
 invariant-loop-len l = record {
