@@ -13,7 +13,7 @@ from umc.lsp.names import Sort  # noqa: E402
 from umc.lsp.placed import Name  # noqa: E402
 from umc.lsp.positions import Lines, changed  # noqa: E402
 from umc.lsp.reading import Reading  # noqa: E402
-from umc.lsp.rename import alike, order_for, replaced  # noqa: E402
+from umc.lsp.rename import are_alike, order_for, replaced  # noqa: E402
 from umc.lsp.tokens import Kind, split  # noqa: E402
 
 RARE = """\ufeff// names of each kind that hide each other, and the forms of the grammar that are rare
@@ -65,7 +65,7 @@ def test_all_names_can_be_renamed_at_once(text: str) -> None:
         status, printed = answer([order], renamed)
         assert status == 0, printed
         back = re.sub(r"'?zz[0-9]+zz", lambda one: old[one[0]], printed)
-        assert alike(back, "", "") == alike(answer([order], text)[1], "", "")
+        assert are_alike(back, answer([order], text)[1], "", "")
 
 
 @pytest.mark.parametrize("name", [name for name in Reading(RARE).names if name.text == "x"][:4],
@@ -74,7 +74,16 @@ def test_a_use_that_is_left_out_is_noticed(name: Name) -> None:
     """The comparison tells programs apart."""
     hidden = replaced(RARE, name.tokens[:-1], "zz9")
     status, printed = answer([order_for(name.sort)], hidden)
-    assert status != 0 or alike(printed, "x", "zz9") != alike(answer([order_for(name.sort)], RARE)[1], "x", "zz9")
+    assert status != 0 or not are_alike(printed, answer([order_for(name.sort)], RARE)[1], "x", "zz9")
+
+
+def test_printed_lines_with_another_name_are_alike() -> None:
+    before = "f : num<m s> -> num\ng : num<s m/kg>\n"
+    assert are_alike(before, "f : num<m s> -> num\nh : num<m s/kg>\n", "g", "h")
+    assert are_alike("", "", "g", "h")
+    for after in ("f : num<m s> -> num\n", "f : num<m s> -> num\ni : num<m s/kg>\n", before + before,
+                  "f : num<m s> -> num\nh : num<m/kg>\n", "g : num<m s> -> num\nh : num<m s/kg>\n"):
+        assert not are_alike(before, after, "g", "h")
 
 
 @pytest.mark.parametrize("text", TEXTS)

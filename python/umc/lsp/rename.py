@@ -87,8 +87,16 @@ def judge(snapshot: Snapshot, name: Name, new: str) -> None:
             said = reports.of_answer(answer.status, answer.output)
             raise Refused(f"with the name {new} the program is refused: {said.message}")
         printed = [part.output.decode() for part in (before.result(), answer)]
-    if alike(printed[0], name.text, new) != alike(printed[1], name.text, new):
+    if not are_alike(*printed, name.text, new):
         raise Refused(f"with the name {new} it is another program: a name stands for something else")
+
+
+def are_alike(before: str, after: str, old: str, new: str) -> bool:
+    """Whether what was printed is the same but for the name. Lines with the same letters need no second look."""
+    lines, new_lines = before.splitlines(), after.splitlines()
+    return len(lines) == len(new_lines) and all(
+        line == new_line or alike(line, old, new) == alike(new_line, old, new)
+        for line, new_line in zip(lines, new_lines))
 
 
 def alike(printed: str, old: str, new: str) -> list[str]:
