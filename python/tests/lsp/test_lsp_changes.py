@@ -12,7 +12,7 @@ sys.path.insert(0, str(HOME / "python"))
 
 from umc.lsp import colours  # noqa: E402
 from umc.lsp.kept import Kept  # noqa: E402
-from umc.lsp.names import SPACES, Space  # noqa: E402
+from umc.lsp.names import SPACES, Sort, Space  # noqa: E402
 from umc.lsp.positions import Lines, changed  # noqa: E402
 from umc.lsp.reading import Reading  # noqa: E402
 from umc.lsp.tokens import split  # noqa: E402
@@ -80,6 +80,9 @@ def checked(text: str, kept: Kept) -> Version:
     for made in version.reading.declarations:
         assert made.section.declares == [(space, name.text) for space, name in made.piece.declared]
         assert made.section.end == made.piece.end
+        head, piece = made.section.head, made.piece
+        assert head is None or (head.sort, head.name, head.is_constant) == (
+            piece.sort, piece.name, piece.sort is Sort.FUNCTION and not piece.parameters)
     found, fresh = told(version), told(Version(text))
     assert found["tokens"] == split(text)
     every = {"range": version.lines.range(0, len(text))}

@@ -51,6 +51,7 @@ def place(mark: str) -> Json:
     ("references", "kinetic7 (", ["kinetic7", *(f"kinetic{number}" for number in range(70, 80)), "both"]),
     ("documentHighlight", "kinetic119 (", ["kinetic119"]),
     ("foldingRange", "", []),
+    ("documentSymbol", "", []),
 ])
 def test_an_answer_reads_what_it_needs(snapshot: Snapshot, method: str, mark: str, needed: list[str]) -> None:
     assert ANSWERS[f"textDocument/{method}"](snapshot, place(mark))

@@ -29,7 +29,7 @@ class Declaration:
 
     @property
     def sort(self) -> Sort | None:
-        return self.piece.sort
+        return self.section.head.sort if self.section.head else self.piece.sort
 
     @property
     def source(self) -> str:
@@ -44,7 +44,9 @@ class Declaration:
     @property
     def is_constant(self) -> bool:
         """Whether it is a function without parameters."""
-        return self.sort is Sort.FUNCTION and not self.piece.parameters
+        if self.section.head:
+            return self.section.head.is_constant
+        return self.piece.sort is Sort.FUNCTION and not self.piece.parameters
 
     @cached_property
     def tokens(self) -> list[Token]:
@@ -53,7 +55,8 @@ class Declaration:
 
     @cached_property
     def name(self) -> Token | None:
-        return self.piece.name.moved(self.start) if self.piece.name else None
+        found = self.section.head.name if self.section.head else self.piece.name
+        return found.moved(self.start) if found else None
 
     @cached_property
     def equals(self) -> Token | None:

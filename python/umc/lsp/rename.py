@@ -87,7 +87,7 @@ def judge(snapshot: Snapshot, name: Name, new: str) -> None:
             said = reports.of_answer(answer.status, answer.output)
             raise Refused(f"with the name {new} the program is refused: {said.message}")
         printed = [part.output.decode() for part in (before.result(), answer)]
-    if not are_alike(*printed, name.text, new):
+    if not are_alike(printed[0], printed[1], name.text, new):
         raise Refused(f"with the name {new} it is another program: a name stands for something else")
 
 
