@@ -80,7 +80,19 @@ def opened(server: Server) -> Snapshot:
 
 
 def test_all_is_read_after_a_refusal_was_told(server: Server) -> None:
-    assert read(opened(server)) == ["m", "s", "kg", *(f"kinetic{number}" for number in range(COUNT)), "both"]
+    found = opened(server)
+    server.later.shutdown()
+    assert read(found) == ["m", "s", "kg", *(f"kinetic{number}" for number in range(COUNT)), "both"]
+
+
+def test_no_thread_that_answers_waits_for_requests(server: Server) -> None:
+    """What is read later waits on a thread of its own, so that a request always finds one."""
+    server.requests[1] = server_module.threading.Event()
+    found = opened(server)
+    assert read(found) == []
+    server.requests.clear()
+    server.later.shutdown()
+    assert len(read(found)) == COUNT + 4
 
 
 def test_what_is_asked_goes_first(server: Server, monkeypatch: pytest.MonkeyPatch) -> None:
@@ -98,6 +110,8 @@ def test_what_is_asked_goes_first(server: Server, monkeypatch: pytest.MonkeyPatc
 
     monkeypatch.setattr(server_module.time, "sleep", pause)
     server.requests[1] = server_module.threading.Event()
-    left = read(opened(server))
+    found = opened(server)
+    server.later.shutdown()
+    left = read(found)
     assert waited[:3] == [[], [], []]
     assert len(waited) == 10 and left == waited[-1] == ["m", "s", "kg", "kinetic0", "kinetic1", "kinetic2", "kinetic3"]

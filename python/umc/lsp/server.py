@@ -3,6 +3,7 @@ import logging
 import threading
 import time
 from collections.abc import Callable
+from concurrent.futures import ThreadPoolExecutor
 from functools import partial
 from typing import Any, BinaryIO
 
@@ -21,7 +22,7 @@ from umc.program import Program
 log = logging.getLogger(__name__)
 Answer = Callable[[Snapshot, Json], Any]
 WORKERS = 4
-PAUSE = 0.0005
+PAUSE = 0.002
 ERROR = 1
 
 
@@ -41,6 +42,7 @@ class Server:
     """Answers one client until it ends the session. `status` is then the exit status.
 
     `requests` are those about texts that aren't answered yet, each with what tells that the client took it back.
+    `later` is the thread for what nobody waits for.
     """
 
     def __init__(self, program: Program, source: BinaryIO, sink: BinaryIO, before: list[str]):
@@ -49,6 +51,7 @@ class Server:
         self.requests: dict[Any, threading.Event] = {}
         self._started = self._ending = False
         self._request: Any = None
+        self.later = ThreadPoolExecutor(1)
         self._reader = JsonRpcStreamReader(source)
         self._writer = JsonRpcStreamWriter(sink)
         self._endpoint = Endpoint(self, self._writer.write, max_workers=WORKERS)
@@ -59,6 +62,7 @@ class Server:
         if not self._started:
             self.status = 0
         self.workspace.close_all()
+        self.later.shutdown()
         self._endpoint.shutdown()
         return self.status
 
@@ -144,12 +148,16 @@ class Server:
         return look
 
     def _prepare(self, snapshot: Snapshot) -> None:
-        """Makes what the next requests need, a declaration at a time. What is asked meanwhile goes first."""
+        """Makes what the next requests need."""
         try:
             if snapshot.reading.declarations:
                 snapshot.analysis.known
         except (Dropped, UmError):
             return
+        self.later.submit(self._read, snapshot)
+
+    def _read(self, snapshot: Snapshot) -> None:
+        """Reads a text, a declaration at a time. What is asked meanwhile goes first, on the threads that answer."""
         for made in snapshot.reading.declarations:
             while self.requests and not snapshot.stale.is_set():
                 time.sleep(PAUSE)
