@@ -21,12 +21,16 @@ PLAIN = "[<Measure>] type {}\n"
 
 @dataclass(frozen=True)
 class Case:
-    """An input: its kind, what it is, the words of the command, and what makes its bytes."""
+    """An input: its kind, what it is, the words of the command, and what makes its bytes.
+
+    `is_forced` says that a definition asks for so much work that no bound is promised.
+    """
 
     kind: str
     title: str
     words: list[str]
     make: Callable[[], bytes]
+    is_forced: bool = False
 
 
 def script(path: Path) -> ModuleType:
@@ -215,7 +219,7 @@ def cases() -> Iterator[Case]:
     images = script(ROOT / "bench" / "images.py")
     for count in (280, 1_120):
         yield Case("joins", f"{count:,} stacks of {count:,} values, of which each two meet", ["exec", "9", "f", "[1]"],
-                   lambda n=count: images.pairs(n))
+                   lambda n=count: images.pairs(n), is_forced=True)
     yield Case("shapes", "2 MiB of shapes 400 high", ["exec", "9", "f0000000"], lambda: shapes(1 << 21))
     yield Case("shapes", "16 MiB of shapes 400 high", ["exec", "9", "f0000000"], lambda: shapes(IMAGE))
     for levels in (16, 39):
