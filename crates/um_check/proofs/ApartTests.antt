@@ -17,8 +17,8 @@ use Rattle.um_units.specs.PowerMap.{PowerMap, power_of, replace}
 use Rattle.um_units.proofs.Integers.{div-rem_euclid, rem_euclid-below, no_multiple}
 use Rattle.um_units.proofs.Weights.{zero_is}
 use Rattle.um_units.proofs.Equality.{power_in-head, power_in-tail, power_in-before_all}
-use Rattle.um_wide.specs.declared.WideTerm.{WideTerm}
-use Rattle.um_wide.specs.WideTerms.{as_term, as_terms}
+use Rattle.um_units.specs.declared.wide.WideTerm.{WideTerm}
+use Rattle.um_units.specs.Wide.{as_term, as_terms}
 use Rattle.um_elim.specs.Solution.{rigid_unit}
 use Rattle.um_elim.proofs.Cases.{on_test}
 use Rattle.um_check.specs.Combination.{IsMultiple}

@@ -10,7 +10,7 @@ use Rattle.um_units.specs.declared.Atom.TheVariants.{Base, Var}
 use Rattle.um_units.specs.Terms.{is_zero}
 use Rattle.um_units.specs.PowerMap.{PowerMap, power_of, atom, mul, inv, pow, replace, nth}
 use Rattle.um_units.specs.Variables.{VariablesBelow, variables_below}
-use Rattle.um_wide.specs.declared.WideTerm.{WideTerm}
+use Rattle.um_units.specs.declared.wide.WideTerm.{WideTerm}
 use Rattle.um_wide.specs.Room.{IsNarrow}
 use Rattle.um_tree.specs.TypeTree.{TypeTree, bool_type, num_type, list_type, record_type}
 use Rattle.um_tree.specs.ProgramTree.{SchemeTree}

@@ -4,7 +4,7 @@ ghost use Rattle.std.specs.Prelude.{◌≡◌, ◌↔◌, ◌+ℤ◌, ◌+◌, �
 ghost use Rattle.std.specs.List.{list_all, list_any};
 ghost use Rattle.um_units.specs.PowerMap.{replace};
 ghost use Rattle.um_wide.specs.Room.{IsWithin};
-ghost use Rattle.um_wide.specs.WideTerms.{as_terms};
+ghost use Rattle.um_units.specs.Wide.{as_terms};
 ghost use Rattle.um_elim.specs.Solution.{rigid_unit};
 ghost use Rattle.um_equal_types.specs.Steps.{units_of};
 ghost use Rattle.um_check.specs.Refutation.{IsApart, IsValidNo, HasNone, fixed_slots};
@@ -14,8 +14,9 @@ use crate::No;
 use crate::combination::{names_below, product_of_rows};
 use std::alloc::Global;
 use um_rows::{Row, Rows};
+use um_units::wide::WideTerm;
 use um_units::{Atom, NoMemory};
-use um_wide::{WideTerm, WideUnit};
+use um_wide::WideUnit;
 
 /// Whether the atom is the variable of a slot that no unit parameter has.
 fn is_free(parameters: u32, atom: Atom) -> bool

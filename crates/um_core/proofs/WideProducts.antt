@@ -21,9 +21,9 @@ use Rattle.um_elim.specs.Elimination.{is_empty}
 use Rattle.um_elim.specs.ElimStep.{substitute, inverted_if_negative}
 use Rattle.um_elim.proofs.Cases.{on_test}
 use Rattle.um_elim.proofs.Shear.{replace-multiply, substitute-one}
-use Rattle.um_wide.specs.declared.WideTerm.{WideTerm}
+use Rattle.um_units.specs.declared.wide.WideTerm.{WideTerm}
 use Rattle.um_wide.specs.Room.{IsNarrow, HaveRoom}
-use Rattle.um_wide.specs.WideTerms.{as_term, as_terms}
+use Rattle.um_units.specs.Wide.{as_term, as_terms}
 use Rattle.um_core.specs.Wide.{sign_of}
 use Rattle.um_wide.proofs.Rooms.{within-one, within-pow, within-atom_pow, within-weaker, room-within}
 

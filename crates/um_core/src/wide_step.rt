@@ -6,13 +6,14 @@ ghost use Rattle.um_units.specs.PowerMap.{atom, mul, pow};
 ghost use Rattle.um_elim.specs.Pivot.{is_base, is_other, lesser_with, pivot, pivot_of};
 ghost use Rattle.um_elim.specs.ElimStep.{inverted_if_negative, less_quotient, quotients};
 ghost use Rattle.um_wide.specs.Room.{IsNarrow};
-ghost use Rattle.um_wide.specs.WideTerms.{as_terms};
+ghost use Rattle.um_units.specs.Wide.{as_terms};
 ghost use Rattle.um_core.specs.Wide.{IsAfterStep, as_pivot, sign_of};
 
 use crate::powers::{all_multiplied, multiplied, narrowed, times_atom};
 use std::alloc::{AllocError, Global};
 use um_units::Atom;
-use um_wide::{WideTerm, WideUnit};
+use um_units::wide::WideTerm;
+use um_wide::WideUnit;
 
 /// A variable of a row and its power.
 #[derive(Clone, Copy)]

@@ -68,8 +68,8 @@ pub extern "C" fn umc_embed_types(
 /// Calls a function of the program that is open: the answer to `run BUDGET NAME ARG*` about its text, as with
 /// [`umc_embed_types`].
 ///
-/// `words` has the name of the function and its arguments in UTF-8, with a zero byte between each two. It takes time for
-/// the words, the names of the program and the run.
+/// `words` has the name of the function and its arguments in UTF-8, with a zero byte between each two. It takes time
+/// for the words, the names of the program and the run.
 #[unsafe(no_mangle)]
 pub extern "C" fn umc_embed_call(
     alloc: Global,

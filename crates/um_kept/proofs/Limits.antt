@@ -11,8 +11,8 @@ use Rattle.um_units.specs.Terms.{power_in, is_normal, is_zero}
 use Rattle.um_units.specs.PowerMap.{PowerMap, power_of}
 use Rattle.um_units.proofs.Equality.{power_in-head, power_in-tail, power_in-before_all}
 use Rattle.um_elim.proofs.Cases.{on_test}
-use Rattle.um_wide.specs.declared.WideTerm.{WideTerm}
-use Rattle.um_wide.specs.WideTerms.{as_term, as_terms}
+use Rattle.um_units.specs.declared.wide.WideTerm.{WideTerm}
+use Rattle.um_units.specs.Wide.{as_term, as_terms}
 use Rattle.um_wide.specs.Room.{IsWithin}
 use Rattle.um_kept.specs.Formed.{IsPowerIn}
 

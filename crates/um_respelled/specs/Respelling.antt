@@ -43,7 +43,8 @@ HasKindOf (Some n) k j =
 module _ (spell : Token → List Token → Option Numeral) where
   abbrev pub AllCan : List Token → List Token → Type 0
   AllCan before [] = Unit {0}
-  AllCan before (t ∷ ts) = ((n : Numeral) → spell t ts ≡ Some n → CanRespell before t ts n) × AllCan (before ++ t ∷ []) ts
+  AllCan before (t ∷ ts) =
+      ((n : Numeral) → spell t ts ≡ Some n → CanRespell before t ts n) × AllCan (before ++ t ∷ []) ts
 
   -- the second tokens are the first ones, but for the kinds of number texts
   abbrev pub AllHaveKinds : List Token → List Token → Type 0

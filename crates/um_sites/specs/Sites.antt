@@ -101,7 +101,7 @@ not_known before f scope x =
 module _ (fault : NameStop) where
   -- ---- places of names
 
-  -- a name that is used; quoted: a variable of a unit text. known: the names of its space that are known there, in order
+  -- a name that is used; quoted: a variable of a unit text; known: the names of its space known there, in order
   abbrev pub used : ℕ → List ℕ → Bool → List Named → List NameDetail
   used at x quoted known = told_if (is_unknown fault at) (detail.Unknown x quoted (names_of known))
 
@@ -181,7 +181,8 @@ module _ (fault : NameStop) where
       -- a name with so many arguments; a variable takes none
       abbrev pub name_told : List Named → ℕ → List ℕ → ℕ → List NameDetail
       name_told scope at x found =
-          told_if (is_unknown fault at) (not_known before f scope x) ++ counted at (parts_of (known_in before f scope) x) found
+          told_if (is_unknown fault at) (not_known before f scope x)
+          ++ counted at (parts_of (known_in before f scope) x) found
 
       abbrev mutual
         pub expr_told : List Named → ExprSyntax → List NameDetail

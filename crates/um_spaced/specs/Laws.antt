@@ -10,8 +10,8 @@ use Rattle.um_show.specs.Layout.{layout}
 use Rattle.um_show.specs.Unplaced.{bare_program}
 use Rattle.um_tidy.specs.Tidied.{tidied}
 
--- The layout of a program is laid out as it stands. So between two tokens the layout has a space exactly if the table of
--- spaces has one there, and it has a line of its own for each token that begins a declaration and for no other.
+-- The layout of a program is laid out as it stands. So between two tokens the layout has a space exactly if the table
+-- of spaces has one there, and it has a line of its own for each token that begins a declaration and for no other.
 abbrev pub LayoutIsTidy : Type 0
 LayoutIsTidy =
     (text : List ℕ) (tokens : List Token) (ds : List DeclSyntax) → IsTextAnswer text (Ok tokens) → IsProgram tokens ds

@@ -81,7 +81,8 @@ AreKept stacks joins = (k : ℕ) (kept : KeptJoin) → slice_get joins k ≡ Som
 -- their lower parts of this height have no join
 abbrev pub ClashUpTo : List (List FlatShape) → ℕ → ℕ → ℕ → Type 0
 ClashUpTo stacks one other height =
-    None ≡ join_all (flat_shapes (take height (stack_at stacks one))) (flat_shapes (take height (stack_at stacks other)))
+    let lower : ℕ → List StackShape = λ k. flat_shapes (take height (stack_at stacks k)) in
+    None ≡ join_all (lower one) (lower other)
 
 -- the tops that were passed on the way down two stacks, joined
 abbrev pub tops_of : List Passed → List StackShape

@@ -1,5 +1,5 @@
-//! The grammar of notes, types and signature texts, and the reading of these and of unit texts: from tokens to raw trees,
-//! with the exact place of each refusal.
+//! The grammar of notes, types and signature texts, and the reading of these and of unit texts: from tokens to raw
+//! trees, with the exact place of each refusal.
 //!
 //! ```
 //! let (unit, stop) = parse_unit(alloc, tokens.as_slice(), 0, end)?; // `m/s^2`, up to what doesn't go on

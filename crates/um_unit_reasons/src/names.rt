@@ -40,7 +40,8 @@ fn function_at(items: &[RawDecl], i: u32) -> Option<&RawFunction>
 
 /// The function that is declared, if none is left to be passed.
 fn function_in(decl: &RawDecl, left: u32) -> Option<&RawFunction>
-    ensures { option_map (λ f. whole_function_syntax f.now) result ≡ slice_get (function_of (decl_syntax decl.now)) left }
+    ensures { option_map (λ f. whole_function_syntax f.now) result
+        ≡ slice_get (function_of (decl_syntax decl.now)) left }
 {
     match decl {
         RawDecl::Base(_, _) | RawDecl::Short(_, _, _) | RawDecl::Record(_, _, _, _) => None,

@@ -157,7 +157,8 @@ fn general_pair(alloc: Global, x: &Failing, first: Ty, second: Ty) -> Result<Typ
 
 fn own_numbered(alloc: Global, x: &Failing, types: &[Ty]) -> Result<Numbering, AllocError>
     requires low { IsLow x.now }
-    requires types { All (λ k. k < x.now.found.now.rows.slots + x.now.parameters) (variables (map type_tree types.now)) }
+    requires types { All (λ k. k < x.now.found.now.rows.slots + x.now.parameters)
+        (variables (map type_tree types.now)) }
     ensures { (agreed : List Agreement) → IfOk result (IsNumberingOf (own_named (refusal_of x.now agreed))
         (map type_tree types.now)) }
 {

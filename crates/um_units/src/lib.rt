@@ -31,7 +31,7 @@ mod images;
 mod merge;
 mod short;
 mod staying;
-mod wide;
+pub mod wide;
 
 use wide::WideTerm;
 

@@ -1,6 +1,4 @@
 pub mod Rooms
 mod Terms
-mod AtomOrder
-mod Merging
 mod Scaling
 mod NarrowTerms

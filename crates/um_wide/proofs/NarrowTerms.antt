@@ -9,9 +9,10 @@ use Rattle.um_units.specs.Terms.{power_in, is_normal}
 use Rattle.um_units.specs.PowerMap.{PowerMap}
 use Rattle.um_units.specs.Range.{in_range, all_in_range}
 use Rattle.um_units.proofs.Equality.{power_in-head, power_in-tail, power_in-before_all}
-use Rattle.um_wide.specs.declared.WideTerm.{WideTerm}
+use Rattle.um_units.specs.declared.wide.WideTerm.{WideTerm}
 use Rattle.um_wide.specs.Room.{IsNarrow}
-use Rattle.um_wide.specs.WideTerms.{as_term, as_terms, is_narrow_power, all_narrow}
+use Rattle.um_units.specs.Wide.{as_term, as_terms}
+use Rattle.um_wide.specs.Narrow.{is_narrow_power, all_narrow}
 
 pub narrow_at : (ws : List WideTerm) (i : ℕ) (d : WideTerm) → i < length ws → IsTrue (all_narrow ws) → nat_abs (get_or ws i d).power ≤ 9223372036854775807
 narrow_at [] i d h n = absurd (omega (arith, h))

@@ -1,22 +1,63 @@
 -- The k-th power of a list of terms in normal form, term by term.
-use Rattle.std.proofs.Common.{◌≡◌, ℕ, suc, ◌+◌, ◌<◌, ◌≤◌, List, [], ◌∷◌, ◌++◌, map, ℤ, pos, ◌+ℤ◌, ◌*ℤ◌, length, take, drop, get_or, drop-cons, add-one, sym, ap, ◌∙◌, subst, arith}
+use Rattle.std.proofs.Common.{◌≡◌, ℕ, suc, ◌+◌, ◌<◌, ◌≤◌, ◌^◌, true, false, cond, List, [], ◌∷◌, ◌++◌, append_assoc, map, ℤ, pos, ◌+ℤ◌, ◌*ℤ◌, nat_abs, to_z, of_z, length, take, drop, get_or, drop-cons, add-one, refl, sym, ap, ◌∙◌, subst, arith}
+use Rattle.std.specs.Int.{w128}
 use Rattle.std.specs.Prelude.{IsTrue}
 use Rattle.std.proofs.lemmas.Int.{ints}
+use Rattle.std.proofs.lemmas.Bool.{and_parts, and_from}
+use Rattle.std.proofs.lemmas.List.Folds.{list_all-append}
 use Rattle.std.proofs.lemmas.List.{append-nil, take_more, take_all, map-append}
 use Rattle.std.proofs.Math.ListN.{drop_of_length-le}
 use Rattle.std.proofs.Math.IntN.{*ℤ-zero}
 use Rattle.um_frac.proofs.Integers.{*ℤ-+ℤ, *ℤ_assoc}
 use Rattle.um_units.specs.declared.Atom.{Atom}
 use Rattle.um_units.specs.declared.Term.{Term}
-use Rattle.um_units.specs.Terms.{indicator, power_in, is_normal, unless_zero}
+use Rattle.um_units.specs.Atoms.{is_before}
+use Rattle.um_units.specs.Terms.{indicator, power_in, is_zero, is_before_all, is_normal, unless_zero}
+use Rattle.um_units.specs.NormalForm.{head_nonzero, head_before_all, tail_normal, cons_normal}
 use Rattle.um_units.specs.PowerMap.{PowerMap, product, scale}
-use Rattle.um_units.proofs.Weights.{weigh-++}
+use Rattle.um_units.specs.Wide.{as_term, as_terms}
+use Rattle.um_units.specs.declared.wide.WideTerm.{WideTerm}
+use Rattle.um_units.proofs.Weights.{weigh-++, weigh-unless_zero}
 use Rattle.um_units.proofs.Equality.{product-normal, same_product}
 use Rattle.um_units.proofs.Group.{weigh-scale}
-use Rattle.um_wide.specs.declared.WideTerm.{WideTerm}
-use Rattle.um_wide.specs.WideTerms.{as_term, as_terms}
-use Rattle.um_wide.proofs.Merging.{gone_out, power_in-out}
 
+-- ---- lists in normal form with one front
+in_front : (x : Atom) (ts us : List Term) → IsTrue (is_before_all x (ts ++ us)) → IsTrue (is_before_all x ts) × IsTrue (is_before_all x us)
+in_front x ts us h = and_parts (is_before_all x ts) (is_before_all x us) (sym (list_all-append (λ t. is_before x t.atom) ts us) ∙ h)
+
+in_front_of : (x : Atom) (ts us : List Term) → IsTrue (is_before_all x ts) → IsTrue (is_before_all x us) → IsTrue (is_before_all x (ts ++ us))
+in_front_of x ts us h k = list_all-append (λ t. is_before x t.atom) ts us ∙ and_from _ _ h k
+
+-- a term is left out
+left_out : (out : List Term) (s : Term) (ss : List Term) → IsTrue (is_normal (out ++ s ∷ ss)) → IsTrue (is_normal (out ++ ss))
+left_out [] s ss n = tail_normal s ss n
+left_out (o ∷ out) s ss n =
+    let p = in_front o.atom out (s ∷ ss) (head_before_all o (out ++ s ∷ ss) n) in
+    cons_normal o (out ++ ss) (head_nonzero o (out ++ s ∷ ss) n)
+    (in_front_of o.atom out ss p.0 (and_parts (is_before o.atom s.atom) (is_before_all o.atom ss) p.1).1)
+    (left_out out s ss (tail_normal o (out ++ s ∷ ss) n))
+
+-- a term gets another power
+with_power : (out : List Term) (s : Term) (ss : List Term) (k : ℤ) → is_zero k ≡ false → IsTrue (is_normal (out ++ s ∷ ss)) → IsTrue (is_normal (out ++ record { atom = s.atom; power = k } ∷ ss))
+with_power [] s ss k z n = cons_normal (record { atom = s.atom; power = k }) ss z (head_before_all s ss n) (tail_normal s ss n)
+with_power (o ∷ out) s ss k z n =
+    let p = in_front o.atom out (s ∷ ss) (head_before_all o (out ++ s ∷ ss) n) in
+    cons_normal o (out ++ record { atom = s.atom; power = k } ∷ ss) (head_nonzero o (out ++ s ∷ ss) n) (in_front_of o.atom out (record { atom = s.atom; power = k } ∷ ss) p.0 p.1)
+    (with_power out s ss k z (tail_normal o (out ++ s ∷ ss) n))
+
+-- the first term that is left goes out, with another power or not at all
+gone_out : (out new : List Term) (s : Term) (ss : List Term) (k : ℤ) → new ≡ out ++ unless_zero (record { atom = s.atom; power = k }) [] → IsTrue (is_normal (out ++ s ∷ ss)) → IsTrue (is_normal (new ++ ss))
+gone_out out new s ss k e n =
+    elim (is_zero k) as (λ b. is_zero k ≡ b → new ≡ out ++ cond b [] (record { atom = s.atom; power = k } ∷ []) → IsTrue (is_normal (new ++ ss))) [
+      | true ↦ λ z f. subst (λ ts. IsTrue (is_normal (ts ++ ss))) (sym (f ∙ append-nil out)) (left_out out s ss n)
+      | false ↦ λ z f.
+          subst (λ ts. IsTrue (is_normal ts)) (sym (ap (λ ts. ts ++ ss) f ∙ append_assoc out (record { atom = s.atom; power = k } ∷ []) ss)) (with_power out s ss k z n)
+    ] refl e
+
+power_in-out : (out new : List Term) (t : Term) (x : Atom) → new ≡ out ++ unless_zero t [] → power_in new x ≡ power_in out x +ℤ (t.power *ℤ indicator x t.atom +ℤ pos 0)
+power_in-out out new t x e = ap (λ ts. power_in ts x) e ∙ weigh-++ (indicator x) out (unless_zero t []) ∙ ap (λ n. power_in out x +ℤ n) (weigh-unless_zero (indicator x) t [])
+
+-- ---- the power, term by term
 -- out holds the k-th power of the first i terms, and is in normal form with those that are left
 pub record IsScaling (k : ℤ) (ws : List WideTerm) (out : List Term) (i : ℕ) : Type 0 where
   pub powers : (x : Atom) → power_in out x ≡ k *ℤ power_in (as_terms (take i ws)) x
@@ -55,3 +96,7 @@ scaling_last k ws out i s h =
   where
     normal : IsTrue (is_normal out)
     normal = subst (λ ts. IsTrue (is_normal ts)) (ap (λ us. out ++ as_terms us) (drop_of_length-le ws h) ∙ append-nil out) s.normal
+
+-- ---- powers as the code holds them
+pub wide : (z : ℤ) (n : ℕ) → nat_abs z ≤ n → n < 2 ^ 127 → to_z w128 (of_z w128 z) ≡ z
+wide z n h k = omega (arith, ints)

@@ -14,8 +14,8 @@ use Rattle.um_units.specs.PowerMap.{PowerMap, product, one, atom, mul, scale, po
 use Rattle.um_units.proofs.Weights.{weigh-product, weigh-++, weigh-unless_zero}
 use Rattle.um_units.proofs.Equality.{same_unit, product-normal, product-of_terms}
 use Rattle.um_units.proofs.Group.{power_of-mul, power_of-pow, weight-atom}
-use Rattle.um_wide.specs.declared.WideTerm.{WideTerm}
-use Rattle.um_wide.specs.WideTerms.{as_term, as_terms}
+use Rattle.um_units.specs.declared.wide.WideTerm.{WideTerm}
+use Rattle.um_units.specs.Wide.{as_term, as_terms}
 
 -- ---- a unit and its terms
 pub normal_terms : (ws : List WideTerm) (u : PowerMap) → as_terms ws ≡ u.terms → IsTrue (is_normal (as_terms ws))

@@ -15,16 +15,17 @@ ghost use Rattle.um_units.specs.Atoms.{same_atom};
 ghost use Rattle.um_units.specs.declared.Atom.TheVariants.{Base};
 ghost use Rattle.um_units.specs.PowerMap.{one, atom, mul, pow, power_of, replace, nth};
 ghost use Rattle.um_wide.specs.Room.{HaveRoom, IsNarrow, IsWithin};
-ghost use Rattle.um_wide.specs.WideTerms.{as_terms};
+ghost use Rattle.um_units.specs.Wide.{as_terms};
 
 mod images;
 mod merge;
 mod narrow;
 
-use merge::{merged, push_nonzero, scaled, widened};
+use merge::{scaled, widened};
 use narrow::are_narrow;
 use std::alloc::Global;
 use std::marker::Model;
+use um_units::wide::{WideTerm, merged, push_nonzero};
 use um_units::{Atom, NoMemory, Unit};
 
 /// Whether the atom is the base unit of this number.
@@ -35,13 +36,6 @@ pub fn is_base_unit(atom: Atom, n: u64) -> bool
         Atom::Base(m) => n == u64::from(m),
         Atom::Var(_) => false,
     }
-}
-
-/// An atom and its power.
-#[derive(Clone, Copy, PartialEq, Eq)]
-pub struct WideTerm {
-    pub atom: Atom,
-    pub power: i128,
 }
 
 /// A unit: a finite map from atoms to powers other than 0.
@@ -55,7 +49,7 @@ impl Model for WideUnit {
     ghost use Rattle.um_units.specs.PowerMap.{PowerMap, product};
     ghost use Rattle.um_units.specs.PowerMapCode.{power_map_code};
     ghost use Rattle.um_units.specs.Terms.{is_normal};
-    ghost use Rattle.um_wide.specs.WideTerms.{as_terms};
+    ghost use Rattle.um_units.specs.Wide.{as_terms};
 
     ghost Value = { PowerMap };
 

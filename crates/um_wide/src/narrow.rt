@@ -1,9 +1,9 @@
 //! Whether powers lie in the range of 64 bits.
 
 ghost use Rattle.std.specs.Prelude.{◌≡◌};
-ghost use Rattle.um_wide.specs.WideTerms.{is_narrow_power, all_narrow};
+ghost use Rattle.um_wide.specs.Narrow.{is_narrow_power, all_narrow};
 
-use crate::WideTerm;
+use um_units::wide::WideTerm;
 
 /// The greatest absolute power of 64 bits.
 const MAX_POWER: u128 = 9223372036854775807;

@@ -5,9 +5,9 @@ use Rattle.um_units.specs.declared.Atom.TheVariants.{Base}
 use Rattle.um_units.specs.declared.Term.{Term}
 use Rattle.um_units.specs.PowerMap.{PowerMap, product, atom, mul, pow}
 use Rattle.um_elim.specs.ElimStep.{less_quotient}
-use Rattle.um_wide.specs.declared.WideTerm.{WideTerm}
+use Rattle.um_units.specs.declared.wide.WideTerm.{WideTerm}
 use Rattle.um_wide.specs.Room.{IsNarrow}
-use Rattle.um_wide.specs.WideTerms.{as_term}
+use Rattle.um_units.specs.Wide.{as_term}
 use Rattle.um_core.proofs.WideProducts.{narrow_one, narrow_at, change_more, same_term, term_inside, fits128}
 use Rattle.um_core.proofs.wide_step.quotients_of.Goals as goal
 

@@ -11,8 +11,8 @@ use Rattle.um_units.specs.declared.Term.{Term}
 use Rattle.um_units.specs.PowerMap.{power_of, product}
 use Rattle.um_units.specs.Variables.{atom_below}
 use Rattle.um_units.proofs.Equality.{product-of_terms}
-use Rattle.um_wide.specs.declared.WideTerm.{WideTerm}
-use Rattle.um_wide.specs.WideTerms.{as_term}
+use Rattle.um_units.specs.declared.wide.WideTerm.{WideTerm}
+use Rattle.um_units.specs.Wide.{as_term}
 use Rattle.um_check.specs.declared.certificate.Part.{Part}
 use Rattle.um_check.specs.Combination.{NamesRowsBelow}
 use Rattle.um_kept.specs.Formed.{IsPowerIn}

@@ -1,6 +1,6 @@
 use Rattle.std.proofs.Common.{◌≡◌, map, take}
 use Rattle.um_units.specs.declared.Atom.TheVariants.{Var}
-use Rattle.um_wide.specs.WideTerms.{as_term}
+use Rattle.um_units.specs.Wide.{as_term}
 use Rattle.um_check.specs.declared.certificate.Part.{Part}
 use Rattle.um_kept.proofs.made.parts_of.Given as goal
 

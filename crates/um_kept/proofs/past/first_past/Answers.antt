@@ -6,7 +6,7 @@ use Rattle.std.specs.Int.{w128}
 use Rattle.std.specs.Prelude.{IsTrue, take}
 use Rattle.std.specs.List.{list_all}
 use Rattle.um_units.specs.declared.Atom.TheVariants.{Base}
-use Rattle.um_wide.specs.declared.WideTerm.{WideTerm}
+use Rattle.um_units.specs.declared.wide.WideTerm.{WideTerm}
 use Rattle.um_kept.specs.Formed.{IsPowerIn}
 use Rattle.um_kept.proofs.Limits.{is_low, within_low, power_held}
 use Rattle.um_kept.proofs.past.first_past.Goals as goal

@@ -8,8 +8,8 @@ use Rattle.um_units.specs.PowerMap.{product}
 use Rattle.um_units.specs.Range.{fits}
 use Rattle.um_units.proofs.Equality.{product-of_terms}
 use Rattle.um_units.proofs.InRange.{fits_from_powers}
-use Rattle.um_wide.specs.declared.WideTerm.{WideTerm}
-use Rattle.um_wide.specs.WideTerms.{as_term}
+use Rattle.um_units.specs.declared.wide.WideTerm.{WideTerm}
+use Rattle.um_units.specs.Wide.{as_term}
 use Rattle.um_kept.specs.Formed.{IsPowerIn}
 use Rattle.um_kept.proofs.Limits.{narrow32, power_held}
 use Rattle.um_kept.proofs.past.narrow_unit.Goals as goal

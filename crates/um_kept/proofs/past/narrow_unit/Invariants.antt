@@ -1,5 +1,5 @@
 use Rattle.std.proofs.Common.{◌≡◌, map, take}
-use Rattle.um_wide.specs.WideTerms.{as_term}
+use Rattle.um_units.specs.Wide.{as_term}
 use Rattle.um_kept.proofs.past.narrow_unit.Given as goal
 
 abbrev pub invariant-loop-term : goal.invariant-loop-term

@@ -4,8 +4,8 @@ use Rattle.std.proofs.lemmas.Int.{to_z-of_z}
 use Rattle.um_units.specs.declared.Atom.{Atom}
 use Rattle.um_units.specs.Terms.{unless_zero}
 use Rattle.um_units.specs.PowerMap.{atom, pow}
-use Rattle.um_wide.specs.declared.WideTerm.{WideTerm}
-use Rattle.um_wide.specs.WideTerms.{as_terms}
+use Rattle.um_units.specs.declared.wide.WideTerm.{WideTerm}
+use Rattle.um_units.specs.Wide.{as_terms}
 use Rattle.um_wide.proofs.Terms.{atom_terms, normal_terms, product_terms}
 use Rattle.um_wide.proofs.WideUnit.atom_power.Goals as goal
 
@@ -16,7 +16,7 @@ pub invariant_of-result : goal.invariant_of-result
 invariant_of-result c =
     let k = to_z w128 (of_z w128 c.args.power) in
     let ws = c.push_nonzero.new.out.items in
-    normal_terms ws (pow (atom c.args.a) k) (pushed ws c.new-terms.result.items c.args.a k c.new-terms.ensures.items c.in_ok-push_nonzero.ensures)
+    normal_terms ws (pow (atom c.args.a) k) (pushed ws c.new-terms.result.items c.args.a k c.new-terms.ensures.items c.in_ok-push_nonzero.ensures.pushed)
 
 pub returns : goal.returns
 returns c =
@@ -24,6 +24,6 @@ returns c =
     let ws = c.push_nonzero.new.out.items in
     record {
       exact =
-          product_terms ws (pow (atom c.args.a) k) (pushed ws c.new-terms.result.items c.args.a k c.new-terms.ensures.items c.in_ok-push_nonzero.ensures)
+          product_terms ws (pow (atom c.args.a) k) (pushed ws c.new-terms.result.items c.args.a k c.new-terms.ensures.items c.in_ok-push_nonzero.ensures.pushed)
           ∙ ap (pow (atom c.args.a)) (to_z-of_z w128 c.args.power c.ranges.power);
     }

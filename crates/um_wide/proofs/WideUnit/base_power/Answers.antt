@@ -5,7 +5,7 @@ use Rattle.std.proofs.lemmas.Int.{to_z-of_z}
 use Rattle.um_units.specs.declared.Atom.TheVariants.{Base}
 use Rattle.um_units.specs.Terms.{power_in, is_normal}
 use Rattle.um_units.proofs.Equality.{power_in-found, power_in-none}
-use Rattle.um_wide.specs.WideTerms.{as_term, as_terms}
+use Rattle.um_units.specs.Wide.{as_term, as_terms}
 use Rattle.um_wide.proofs.Terms.{terms_of, find_terms}
 use Rattle.um_wide.proofs.WideUnit.base_power.Goals as goal
 

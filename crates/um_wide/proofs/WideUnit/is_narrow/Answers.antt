@@ -1,5 +1,5 @@
 use Rattle.std.proofs.Common.{◌∙◌, ap, sym}
-use Rattle.um_wide.specs.WideTerms.{as_terms}
+use Rattle.um_units.specs.Wide.{as_terms}
 use Rattle.um_wide.proofs.NarrowTerms.{narrow_unit}
 use Rattle.um_wide.proofs.Terms.{terms_of}
 use Rattle.um_wide.proofs.WideUnit.is_narrow.Goals as goal

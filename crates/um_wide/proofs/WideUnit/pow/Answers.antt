@@ -2,7 +2,7 @@ use Rattle.std.proofs.Common.{◌∙◌, ap, map, to_z, of_z, w64}
 use Rattle.std.proofs.lemmas.Int.{to_z-of_z}
 use Rattle.um_units.specs.PowerMap.{product, scale}
 use Rattle.um_units.specs.Terms.{is_normal}
-use Rattle.um_wide.specs.WideTerms.{as_terms}
+use Rattle.um_units.specs.Wide.{as_terms}
 use Rattle.um_wide.proofs.NarrowTerms.{narrow_unit}
 use Rattle.um_wide.proofs.Terms.{terms_of, normal_terms, product_terms}
 use Rattle.um_wide.proofs.WideUnit.pow.Goals as goal

@@ -3,7 +3,7 @@ use Rattle.std.proofs.lemmas.Int.{to_z-of_z}
 use Rattle.um_units.specs.PowerMap.{product, scale}
 use Rattle.um_units.specs.Range.{all_in_range}
 use Rattle.um_wide.specs.Room.{IsWithin}
-use Rattle.um_wide.specs.WideTerms.{as_terms}
+use Rattle.um_units.specs.Wide.{as_terms}
 use Rattle.um_wide.proofs.NarrowTerms.{narrow-in_range}
 use Rattle.um_wide.proofs.Rooms.{within-pow, within-fits}
 use Rattle.um_wide.proofs.Terms.{normal_terms, product_terms}

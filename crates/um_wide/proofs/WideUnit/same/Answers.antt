@@ -6,11 +6,11 @@ use Rattle.std.specs.Bool.{Decides}
 use Rattle.um_units.specs.PowerMap.{PowerMap, product}
 use Rattle.um_units.specs.declared.Atom.{Atom}
 use Rattle.um_units.specs.declared.Atom.TheVariants.{Base, Var}
-use Rattle.um_wide.specs.declared.WideTerm.{WideTerm}
-use Rattle.um_wide.specs.WideTerms.{as_terms}
+use Rattle.um_units.specs.declared.wide.WideTerm.{WideTerm}
+use Rattle.um_units.specs.Wide.{as_terms}
 use Rattle.um_wide.proofs.Terms.{terms_of, as_terms_inj}
 use Rattle.um_wide.proofs.WideUnit.same.Goals as goal
-use Rattle.um_wide.specs.contracts.WideTermPartialEq.TheImpl as test
+use Rattle.um_units.specs.contracts.wide.WideTermPartialEq.TheImpl as test
 
 abbrev make : Atom → ℤ → WideTerm
 make x k = record { atom = x; power = k }

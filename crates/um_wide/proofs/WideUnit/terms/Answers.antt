@@ -1,5 +1,5 @@
 use Rattle.std.proofs.Common.{◌∙◌, ap}
-use Rattle.um_wide.specs.WideTerms.{as_terms}
+use Rattle.um_units.specs.Wide.{as_terms}
 use Rattle.um_wide.proofs.Terms.{terms_of}
 use Rattle.um_wide.proofs.WideUnit.terms.Goals as goal
 

@@ -3,9 +3,9 @@ use Rattle.std.specs.Int.{w128}
 use Rattle.std.proofs.lemmas.Int.{to_z-of_z}
 use Rattle.um_units.specs.declared.Atom.TheVariants.{Base}
 use Rattle.um_units.specs.PowerMap.{product, scale}
-use Rattle.um_wide.specs.declared.WideTerm.{WideTerm}
-use Rattle.um_wide.specs.WideTerms.{as_terms}
-use Rattle.um_wide.proofs.Merging.{wide}
+use Rattle.um_units.specs.declared.wide.WideTerm.{WideTerm}
+use Rattle.um_units.specs.Wide.{as_terms}
+use Rattle.um_wide.proofs.Scaling.{wide}
 use Rattle.um_wide.proofs.NarrowTerms.{narrow_at}
 use Rattle.um_wide.proofs.Scaling.{scaling_first, scaling_more, scaling_last}
 use Rattle.um_wide.proofs.merge.scaled.Goals as goal
@@ -28,7 +28,7 @@ loop-term-preserved c =
     let w = get_or c.args.terms.now c.loop-term.term-index none in
     let f : FitsSigned w128 w.power = search rules in
     let power = wide c.times-power.result (2 ^ 126) c.times-power.ensures.room (omega arith) ∙ c.times-power.ensures.value ∙ ap (λ z. k *ℤ z) (to_z-of_z w128 w.power f) in
-    scaling_more k c.args.terms.now (as_terms c.loop-term.out.items) (as_terms c.push_nonzero.new.out.items) c.loop-term.term-index none _ c.loop-term.invariant c.loop-term-test.true power c.in_ok-push_nonzero.ensures
+    scaling_more k c.args.terms.now (as_terms c.loop-term.out.items) (as_terms c.push_nonzero.new.out.items) c.loop-term.term-index none _ c.loop-term.invariant c.loop-term-test.true power c.in_ok-push_nonzero.ensures.pushed
 
 pub returns : goal.returns
 returns c =

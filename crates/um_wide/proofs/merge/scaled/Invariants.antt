@@ -1,4 +1,4 @@
-use Rattle.um_wide.specs.WideTerms.{as_terms}
+use Rattle.um_units.specs.Wide.{as_terms}
 use Rattle.um_wide.proofs.Scaling.{IsScaling}
 use Rattle.um_wide.proofs.merge.scaled.Given as goal
 

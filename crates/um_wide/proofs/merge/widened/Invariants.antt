@@ -1,5 +1,5 @@
 use Rattle.std.proofs.Common.{◌≡◌, take}
-use Rattle.um_wide.specs.WideTerms.{as_terms}
+use Rattle.um_units.specs.Wide.{as_terms}
 use Rattle.um_wide.proofs.merge.widened.Given as goal
 
 abbrev pub invariant-loop-term : goal.invariant-loop-term
