@@ -13,3 +13,4 @@ mod WideMerge
 mod PowerMerge
 mod ComputedTerms
 mod ShortUnits
+mod KeptTerms

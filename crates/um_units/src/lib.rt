@@ -18,7 +18,7 @@ ghost use Rattle.std.specs.List.{find};
 ghost use Rattle.std.specs.Option.{option_copied};
 ghost use Rattle.um_units.specs.Atoms.{same_atom};
 ghost use Rattle.um_units.specs.PowerMap.{one, atom, mul, inv, pow, power_of, product, replace, nth, scale};
-ghost use Rattle.um_units.specs.Range.{all_in_range, fits, RangeUnless};
+ghost use Rattle.um_units.specs.Range.{all_in_range, fits, IsKept, RangeUnless};
 ghost use Rattle.um_units.specs.Terms.{is_normal};
 ghost use Rattle.um_units.specs.Wide.{as_terms};
 
@@ -28,6 +28,7 @@ use std::marker::Model;
 use thiserror::Error;
 
 mod images;
+mod kept;
 mod merge;
 mod short;
 mod staying;
@@ -143,13 +144,26 @@ impl Unit {
     /// The product of the terms, in which an atom may occur more than once, in any order.
     ///
     /// Range comes exactly if a power of the product is out of range, however large the powers in between are. It takes
-    /// about n log n steps for n terms.
+    /// about n log n steps for n terms, and n if their atoms rise.
     pub fn from_terms(alloc: Global, terms: &[Term]) -> Result<Unit, UnitStop>
         ensures exact { IfOk result (λ unit. unit ≡ product terms.now) }
         ensures range { RangeUnless result (fits (product terms.now)) }
     {
+        if kept::are_kept(terms) {
+            return Ok(Unit::of_kept(alloc, terms)?);
+        }
         let sum = images::product(alloc, terms, &[])?;
         Unit::of_sum(alloc, &sum)
+    }
+
+    /// The unit of terms that a unit keeps.
+    fn of_kept(alloc: Global, terms: &[Term]) -> Result<Unit, NoMemory>
+        requires { IsKept terms.now }
+        ensures exact { IfOk result (λ unit. unit ≡ product terms.now) }
+        ensures fits { IsTrue (fits (product terms.now)) }
+    {
+        let terms = SmallVec::from_slice(alloc, terms)?;
+        Ok(Unit { terms })
     }
 
     /// An equal unit.
