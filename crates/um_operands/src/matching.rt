@@ -31,14 +31,7 @@ impl Matching {
     {
         let Matching { at, list, empty } = self;
         let height = one_higher(higher(list.height, higher(empty.height, full.height)));
-        let head = Box::into_inner(head);
-        let node = RawNode::Match(
-            list.tree,
-            empty.tree,
-            head,
-            Box::into_inner(tail),
-            full.tree,
-        );
+        let node = RawNode::Match(list.tree, empty.tree, head, tail, full.tree);
         Operand::of_tree(alloc, RawExpr { at, node }, height)
     }
 }

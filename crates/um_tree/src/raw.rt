@@ -106,8 +106,8 @@ pub enum RawNode {
     Or(Box<RawExpr>, Box<RawExpr>),
     If(Box<RawExpr>, Box<RawExpr>, Box<RawExpr>),
     Let(Binder, Box<RawExpr>, Box<RawExpr>),
-    /// The list, the empty arm, head and tail, the full arm
-    Match(Box<RawExpr>, Box<RawExpr>, Binder, Binder, Box<RawExpr>),
+    /// The list, the empty arm, head and tail in boxes, which keeps all nodes small, and the full arm
+    Match(Box<RawExpr>, Box<RawExpr>, Box<Binder>, Box<Binder>, Box<RawExpr>),
     /// `([] : T)`
     Nil(RawType),
     /// At least one item
