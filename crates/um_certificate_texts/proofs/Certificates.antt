@@ -3,21 +3,20 @@ use Rattle.std.proofs.Common.{◌≡◌, ◌≢◌, ℕ, suc, ◌+◌, ◌^◌, 
 use Rattle.std.specs.Prelude.{All, Bool}
 use Rattle.std.specs.Fmt.{decimal, signed_decimal}
 use Rattle.std.specs.Int.Signed.{mag}
-use Rattle.std.proofs.lemmas.List.{append_cancel_left, append-nil, length-map}
+use Rattle.std.proofs.lemmas.List.{append_cancel_left, length-map}
 use Rattle.std.proofs.lemmas.List.Elements.{All-head, All-tail}
 use Rattle.um_units.specs.PowerMap.{PowerMap}
 use Rattle.um_tree.specs.ProgramTree.{ProgramTree}
 use Rattle.um_tree.specs.Formed.{BasesBelow, IsFormed}
 use Rattle.um_show.specs.UnitText.{unit_text}
-use Rattle.um_check.specs.declared.certificate.Part.{Part}
 use Rattle.um_check.specs.declared.certificate.Yes.{Yes}
 use Rattle.um_check.specs.declared.certificate.No.{No}
 use Rattle.um_certificates.specs.CertificateText.{numbered, with_parameters, function_name, heading, open_text, rigid_text, yes_text, kind_text, no_text, parts_text, refusal_text}
-use Rattle.um_certificate_texts.specs.Laws.{FitsUnit, FitsPart, FitsYes, FitsNo, FitsRefusal, IsNamed, TextsDetermineCertificates}
-use Rattle.um_certificate_texts.proofs.Cuts.{Lacks, cut, decimal_cut, signed_cut, AllLack, no_front}
+use Rattle.um_certificate_texts.specs.Laws.{FitsUnit, FitsYes, FitsNo, FitsRefusal, IsNamed, TextsDetermineCertificates}
+use Rattle.um_certificate_texts.proofs.Cuts.{cut, decimal_cut, signed_cut, AllLack}
 use Rattle.um_certificate_texts.proofs.Names.{ArePlain, bases_plain, parameters_plain, function_lacks, name_apart}
 use Rattle.um_certificate_texts.proofs.UnitTexts.{unit_lacks, unit_told}
-use Rattle.um_certificate_texts.proofs.Lines.{IsApart, Differ, line_front, unit_lines, units_cut, units_apart, parts_lack, parts_told, row_lines, rows_apart, rows_cut}
+use Rattle.um_certificate_texts.proofs.Lines.{IsApart, Differ, unit_lines, units_cut, units_apart, parts_lack, parts_told, row_lines, rows_apart, rows_cut}
 
 -- ---- all units of a list
 module _ (bases : List (List ℕ)) (n : ℕ) (names : ArePlain bases n) where
@@ -71,7 +70,7 @@ rigid_back : Differ rigid_word back_word
 rigid_back a b e = third_differs 114 98 (codes "igid " ++ a) (codes "ack " ++ b) (λ f. omega (arith, f)) e
 
 fourth_differs : (a b : List ℕ) → 32 ∷ 32 ∷ 114 ∷ 105 ∷ a ≡ 32 ∷ 32 ∷ 114 ∷ 111 ∷ b → ⊥
-fourth_differs a b e = let f : 105 ≡ 111 = cc e in omega (arith, f)
+fourth_differs a b e = let f : ◌≡◌ {A = ℕ} 105 111 = cc e in omega (arith, f)
 
 rigid_rows : Differ rigid_word rows_word
 rigid_rows a b e = fourth_differs (codes "gid " ++ a) (codes "ws " ++ b) e
@@ -101,7 +100,7 @@ module _ (name kind : List ℕ) where
       let signs = signed_cut 10 k l (10 ∷ r) (10 ∷ s) refl (λ f. omega (arith, f)) c d refl refl rest in
       let ends : 10 ∷ r ≡ 10 ∷ s = signs.1 in
       let after : r ≡ s = cc ends in
-      (numbers.0, (signs.0, after))
+      (numbers.0, signs.0, after)
 
 -- ---- a Yes
 module _ (p : ProgramTree) (formed : IsFormed p) (name : List ℕ) where
@@ -159,7 +158,7 @@ module _ (p : ProgramTree) (formed : IsFormed p) (name : List ℕ) where
   yes_cut c d r s is fit also small next other e =
       let names = bases_plain p formed in
       let n = length bases in
-      let head = heading_cut name (codes " yes ") c.vars d.vars c.divisor d.divisor (body c r) (body d s) (let l = fit.vars in omega (arith, l)) (let l = small.vars in omega (arith, l)) fit.divisor small.divisor (sym (yes_front c r) ∙ e ∙ yes_front d s) in
+      let head = heading_cut name (codes " yes ") c.vars d.vars c.divisor d.divisor (body c r) (body d s) (let l = fit.vars in omega (arith, l)) (let l = small.vars in omega (arith, l)) fit.divisor.sfits small.divisor.sfits (sym (yes_front c r) ∙ e ∙ yes_front d s) in
       let slots = units_cut slot_word bases bases 0 c.solution d.solution (after_slot c r) (after_slot d s) (units_lack bases n names c.solution fit.solution is.solution) (units_lack bases n names d.solution small.solution also.solution) (after_slots c r next) (after_slots d s other) head.2 in
       let backs = units_cut back_word bases bases 0 c.back d.back (after_back c r) (after_back d s) (units_lack bases n names c.back fit.back is.back) (units_lack bases n names d.back small.back also.back) (after_backs c r next) (after_backs d s other) slots.1 in
       let solution = units_told bases n names c.solution d.solution fit.solution small.solution is.solution also.solution slots.0 in
@@ -175,7 +174,7 @@ module _ (p : ProgramTree) (formed : IsFormed p) (name : List ℕ) where
 
 -- ---- a No
 module _ (name : List ℕ) where
-  rest : No → List ℕ
+  abbrev pub rest : No → List ℕ
   rest k = codes "  rows: " ++ (parts_text k.parts ++ 10 ∷ [])
 
   front : (k : No) → no_text name k ≡ heading name (kind_text k.loose) (k.last + 1) k.modulus ++ rest k
@@ -184,7 +183,7 @@ module _ (name : List ℕ) where
       ∙ append_assoc (heading name (kind_text k.loose) (k.last + 1) k.modulus) (codes "  rows: ") (parts_text k.parts ++ 10 ∷ [])
 
   -- what comes after the name and the kind
-  abbrev after_kind : No → List ℕ
+  abbrev pub after_kind : No → List ℕ
   after_kind k = decimal (k.last + 1) ++ (codes " " ++ (signed_decimal k.modulus ++ 10 ∷ rest k))
 
   pub kinds : (k : No) (l : Bool) → k.loose ≡ l → no_text name k ≡ name ++ (kind_text l ++ after_kind k)
@@ -193,7 +192,7 @@ module _ (name : List ℕ) where
   apart : (s t : List ℕ) → kind_text true ++ s ≡ kind_text false ++ t → ⊥
   apart s t e =
       let whole : 32 ∷ 110 ∷ 111 ∷ 32 ∷ s ≡ 32 ∷ 110 ∷ 111 ∷ 116 ∷ (codes " general " ++ t) = e in
-      let f : 32 ≡ 116 = cc whole in
+      let f : ◌≡◌ {A = ℕ} 32 116 = cc whole in
       omega (arith, f)
 
   module _ (c d : No) (a : FitsNo c) (b : FitsNo d) (e : no_text name c ≡ no_text name d) where
@@ -201,7 +200,7 @@ module _ (name : List ℕ) where
     same_kind loose =
         let whole : heading name (kind_text c.loose) (c.last + 1) c.modulus ++ rest c ≡ heading name (kind_text c.loose) (d.last + 1) d.modulus ++ rest d =
         sym (front c) ∙ e ∙ front d ∙ ap (λ t. heading name (kind_text t) (d.last + 1) d.modulus ++ rest d) (sym loose) in
-        let head = heading_cut name (kind_text c.loose) (c.last + 1) (d.last + 1) c.modulus d.modulus (rest c) (rest d) (let l = a.last in omega (arith, l)) (let l = b.last in omega (arith, l)) a.modulus b.modulus whole in
+        let head = heading_cut name (kind_text c.loose) (c.last + 1) (d.last + 1) c.modulus d.modulus (rest c) (rest d) (let l = a.last in omega (arith, l)) (let l = b.last in omega (arith, l)) a.modulus.sfits b.modulus.sfits whole in
         let lines = append_cancel_left (codes "  rows: ") (parts_text c.parts ++ 10 ∷ []) (parts_text d.parts ++ 10 ∷ []) head.2 in
         let texts = cut 10 (parts_text c.parts) (parts_text d.parts) (10 ∷ []) (10 ∷ []) (parts_lack c.parts a.parts) (parts_lack d.parts b.parts) refl refl lines in
         let rows = head.0 in
@@ -262,7 +261,7 @@ module _ (p : ProgramTree) (formed : IsFormed p) where
   ends_apart i (Some c) d list s e =
       let one = no_heads i c in let other = yes_heads i d list s in
       let rest = append_cancel_left (function_name p i) (32 ∷ 110 ∷ one.0) (32 ∷ 121 ∷ other.0) (sym one.1 ∙ e ∙ other.1) in
-      let letters : 110 ≡ 121 = cc rest in
+      let letters : ◌≡◌ {A = ℕ} 110 121 = cc rest in
       omega (arith, letters)
 
   lists_told : (i : ℕ) (list others : List Yes) (o q : Option No) → All (IsNamed (length p.bases)) list → All FitsYes list → FitsRefusal o → All (IsNamed (length p.bases)) others → All FitsYes others → FitsRefusal q →

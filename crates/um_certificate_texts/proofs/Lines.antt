@@ -1,9 +1,9 @@
 -- Lines of units and of rows, one after another, are read one by one.
-use Rattle.std.proofs.Common.{◌≡◌, ◌≢◌, ℕ, zero, suc, ◌+◌, ◌^◌, ◌<◌, false, List, [], ◌∷◌, ◌++◌, append_assoc, map, length, codes, refl, sym, ap, ◌∙◌, subst, arith}
+use Rattle.std.proofs.Common.{◌≡◌, ◌≢◌, ℕ, suc, ◌+◌, ◌^◌, ◌<◌, false, List, [], ◌∷◌, ◌++◌, append_assoc, map, length, codes, refl, sym, ◌∙◌, subst, arith}
 use Rattle.std.specs.Prelude.{All}
 use Rattle.std.specs.Fmt.{decimal, signed_decimal}
 use Rattle.std.specs.Char.{is_ascii_digit}
-use Rattle.std.proofs.lemmas.Fmt.{decimal_injective, signed_decimal_injective}
+use Rattle.std.proofs.lemmas.Fmt.{signed_decimal_injective}
 use Rattle.std.proofs.lemmas.List.{append_cancel_left}
 use Rattle.std.proofs.lemmas.List.Elements.{All-head, All-tail}
 use Rattle.um_units.specs.PowerMap.{PowerMap}
@@ -82,7 +82,7 @@ wide n small = omega (arith, small)
 
 part_lacks : (m : ℕ) (p : Part) → is_ascii_digit m ≡ false → 42 ≢ m → 45 ≢ m → FitsPart p → Lacks m (part_text p)
 part_lacks m p other star minus fit =
-    subst (Lacks m) (sym (part_front p)) (lacks-append m (decimal p.row) (42 ∷ signed_decimal p.times) (lacks_decimal m p.row other (wide p.row fit.row)) (star, lacks_signed m p.times other minus fit.times))
+    subst (Lacks m) (sym (part_front p)) (lacks-append m (decimal p.row) (42 ∷ signed_decimal p.times) (lacks_decimal m p.row other (wide p.row fit.row)) (star, lacks_signed m p.times other minus fit.times.sfits))
 
 part_told : (p q : Part) → FitsPart p → FitsPart q → part_text p ≡ part_text q → p ≡ q
 part_told p q a b e =
@@ -91,7 +91,7 @@ part_told p q a b e =
     let rows = parts.0 in
     let signs : 42 ∷ signed_decimal p.times ≡ 42 ∷ signed_decimal q.times = parts.1 in
     let digits : signed_decimal p.times ≡ signed_decimal q.times = cc signs in
-    let powers = signed_decimal_injective p.times q.times a.times b.times digits in
+    let powers = signed_decimal_injective p.times q.times a.times.sfits b.times.sfits digits in
     λ i. record { row = rows i; times = powers i }
 
 part_words : (ps : List Part) → All FitsPart ps → AreWords part_text ps
@@ -99,7 +99,8 @@ part_words [] h = tt
 part_words (p ∷ ps) h =
     let fit = All-head FitsPart p ps h in (
       part_lacks 32 p refl (λ e. omega (arith, e)) (λ e. omega (arith, e)) fit,
-      ((λ e. no_front (decimal p.row) (42 ∷ signed_decimal p.times) (λ f. no_decimal p.row (wide p.row fit.row) f) (e ∙ part_front p)), part_words ps (All-tail FitsPart p ps h)),
+      (λ e. no_front (decimal p.row) (42 ∷ signed_decimal p.times) (λ f. no_decimal p.row (wide p.row fit.row) f) (e ∙ part_front p)),
+      part_words ps (All-tail FitsPart p ps h),
     )
 
 part_lines : (ps : List Part) → All FitsPart ps → AllLack part_text 10 ps

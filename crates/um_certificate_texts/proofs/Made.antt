@@ -1,12 +1,12 @@
 -- The certificates that `prove` makes are printed with names for all their base units.
-use Rattle.std.proofs.Common.{◌≡◌, ℕ, zero, suc, ◌+◌, ◌<◌, ◌≤◌, List, [], ◌∷◌, ◌++◌, length, length-append, get_or, slice_get, Option, None, Some, refl, sym, ap, ◌∙◌, subst, arith}
+use Rattle.std.proofs.Common.{◌≡◌, ℕ, zero, suc, ◌+◌, ◌<◌, ◌≤◌, List, [], ◌∷◌, ◌++◌, length, length-append, get_or, slice_get, Option, None, Some, refl, sym, ◌∙◌, subst, arith}
 use Rattle.std.specs.Prelude.{All}
 use Rattle.std.proofs.lemmas.List.{length-map}
 use Rattle.std.proofs.lemmas.List.Elements.{All-weaker}
 use Rattle.std.proofs.lemmas.Option.{slice_get-get_or, slice_get_within}
 use Rattle.um_units.specs.PowerMap.{PowerMap}
 use Rattle.um_tree.specs.ProgramTree.{FunctionTree, ProgramTree, SchemeTree, scheme_tree}
-use Rattle.um_tree.specs.Formed.{BasesBelow, IsFormed}
+use Rattle.um_tree.specs.Formed.{BasesBelow}
 use Rattle.um_slots.specs.Keys.{text_keys}
 use Rattle.um_slots.proofs.ParameterSlots.{parameters_have_slots}
 use Rattle.um_rows.specs.Judgement.{Judgement, has_scheme, too_many_slots, passes_range, has_no_typing, not_general, judge}
@@ -42,13 +42,13 @@ module _ (p : ProgramTree) where
 
   schemes_few : (n : ℕ) (schemes : List SchemeTree) → infer_first p n ≡ all_schemes schemes → AreFew n schemes
   schemes_few zero schemes e = let same : [] ≡ schemes = cc e in subst (AreFew 0) same (omega arith, omega arith)
-  schemes_few (suc n) schemes e = by (infer_first p n) refl e where
-    by : (r : Inference) → infer_first p n ≡ r → and_then r (λ ss. with_function (length p.bases) p.records ss n (slice_get p.functions n)) ≡ all_schemes schemes → AreFew (suc n) schemes
-    by (all_schemes before) is f = few_more n before (schemes_few n before is) (slice_get p.functions n) refl schemes f
-    by (stops_at_slots i) is f = absurd (cc f)
-    by (stops_at_range i at) is f = absurd (cc f)
-    by (stops_at_units i row at) is f = absurd (cc f)
-    by (stops_at_not_general i row at) is f = absurd (cc f)
+  schemes_few (suc n) schemes e = by (schemes_few n) (infer_first p n) refl e where
+    by : ((before : List SchemeTree) → infer_first p n ≡ all_schemes before → AreFew n before) → (r : Inference) → infer_first p n ≡ r → and_then r (λ ss. with_function (length p.bases) p.records ss n (slice_get p.functions n)) ≡ all_schemes schemes → AreFew (suc n) schemes
+    by few (all_schemes before) is f = few_more n before (few before is) (slice_get p.functions n) refl schemes f
+    by few (stops_at_slots i) is f = absurd (cc f)
+    by few (stops_at_range i at) is f = absurd (cc f)
+    by few (stops_at_units i row at) is f = absurd (cc f)
+    by few (stops_at_not_general i row at) is f = absurd (cc f)
 
 -- ---- unit parameters have slots, each with its unit in `rigid`
 wider : (m n : ℕ) → m ≤ n → (us : List PowerMap) → All (BasesBelow m) us → All (BasesBelow n) us

@@ -101,7 +101,7 @@ module _ (p : ProgramTree) (formed : IsFormed p) where
     marks = λ m is. (is.dollar, lacks_decimal m k is.digit (omega (arith, small)));
     quote = ((λ e. omega (arith, e)), lacks_decimal 39 k refl (omega (arith, small)));
     some = λ e. cc e;
-    no_one = λ e. let f : 49 ≡ 36 = cc e in omega (arith, f);
+    no_one = λ e. let f : ◌≡◌ {A = ℕ} 49 36 = cc e in omega (arith, f);
   }
 
   module _ (n : ℕ) (small : n < 2 ^ 32) where

@@ -1,5 +1,5 @@
 -- Units over base units with names of their own are the same if they are printed alike.
-use Rattle.std.proofs.Common.{◌≡◌, ◌≢◌, ℕ, suc, ◌+◌, ◌^◌, ◌*◌, ◌/◌, ◌%◌, ◌<◌, ◌≤◌, Bool, true, false, cond, List, [], ◌∷◌, ◌++◌, map, filter, ℤ, pos, nat_abs, neg_ℤ, ◌+ℤ◌, refl, sym, ap, ◌∙◌, subst, arith, lit<}
+use Rattle.std.proofs.Common.{◌≡◌, ◌≢◌, ℕ, ◌+◌, ◌^◌, ◌*◌, ◌/◌, ◌%◌, ◌<◌, ◌≤◌, Bool, true, false, cond, List, [], ◌∷◌, ◌++◌, map, filter, ℤ, pos, nat_abs, neg_ℤ, ◌+ℤ◌, refl, sym, ap, ◌∙◌, subst, arith, lit<}
 use Rattle.std.specs.Prelude.{IsTrue, nat_eq, nat_lt}
 use Rattle.std.specs.Char.{is_ascii_digit}
 use Rattle.std.specs.Fmt.{decimal}
@@ -15,12 +15,12 @@ use Rattle.um_units.specs.Atoms.{same_atom}
 use Rattle.um_units.specs.Terms.{power_in, is_zero, is_before_all, is_normal}
 use Rattle.um_units.specs.NormalForm.{same_atom-eq, head_nonzero, head_before_all, tail_normal}
 use Rattle.um_units.specs.PowerMap.{PowerMap, power_of}
-use Rattle.um_units.specs.Range.{fits, all_in_range, in_range}
+use Rattle.um_units.specs.Range.{all_in_range, in_range}
 use Rattle.um_units.proofs.Equality.{same_unit, power_in-before_all, power_in-head, power_in-tail}
 use Rattle.um_tree.specs.Formed.{BasesBelow}
 use Rattle.um_elim.proofs.Cases.{on_test}
 use Rattle.um_show.specs.UnitText.{base_name, variable_text, exponent_text, stands_before, with_term, ordered_terms, is_factor, is_divisor, atom_text, factor_text, factors_text, divisors_text, terms_text, unit_text}
-use Rattle.um_read_back.proofs.UnitSizes.{size_at, size_in, ordered_power, power_split}
+use Rattle.um_read_back.proofs.UnitSizes.{size_in, ordered_power, power_split}
 use Rattle.um_certificate_texts.specs.Laws.{FitsUnit}
 use Rattle.um_certificate_texts.proofs.Cuts.{Lacks, Begins, cut, lacks-append, lacks_decimal, no_decimal, AreWords, no_front, joined_cut, first_cut, AllLack, joined_lacks}
 use Rattle.um_certificate_texts.proofs.Names.{IsMark, ArePlain}
@@ -66,7 +66,7 @@ variable_told j k small low e =
     (decimal_injective (j / 26) (k / 26) (small_tail j small) (small_tail k low) (sym (ap (λ t. cond t [] (decimal (j / 26))) a) ∙ tails ∙ ap (λ t. cond t [] (decimal (k / 26))) b))))
 
 variable_lacks : (m k : ℕ) → IsMark m → 39 ≢ m → k < 2 ^ 32 → Lacks m (variable_text k)
-variable_lacks m k is quote small = (quote, (λ e. (let l = is.low in omega (arith, e, l))), tail)
+variable_lacks m k is quote small = (quote, ((λ e. (let l = is.low in omega (arith, e, l))), tail))
   where
     tail : Lacks m (variable_tail k)
     tail = on_test (nat_lt k 26) (λ t. rw t tt) (λ t. rw t (lacks_decimal m (k / 26) is.digit (small_tail k small)))
@@ -137,7 +137,7 @@ module _ (bases : List (List ℕ)) (n : ℕ) (names : ArePlain bases n) where
   atom_no_one (Base k) told e = (names.plain k told).no_one e
   atom_no_one (Var k) told e =
       let whole : 49 ∷ [] ≡ 39 ∷ (97 + k % 26) ∷ variable_tail k = e in
-      let f : 49 ≡ 39 = cc whole in
+      let f : ◌≡◌ {A = ℕ} 49 39 = cc whole in
       omega (arith, f)
 
   quoted : (k j : ℕ) → k < n → base_name bases k ≡ variable_text j → ⊥
@@ -155,7 +155,7 @@ module _ (bases : List (List ℕ)) (n : ℕ) (names : ArePlain bases n) where
 
   factor_told : (s t : Term) → IsTold s.atom → IsTold t.atom → nat_abs s.power ≤ 2147483647 → nat_abs t.power ≤ 2147483647 → factor s ≡ factor t → (s.atom ≡ t.atom) × (nat_abs s.power ≡ nat_abs t.power)
   factor_told s t a b small low e =
-      let quote : 39 ≢ 94 = λ f. omega (arith, f) in
+      let quote : ◌≢◌ {A = ℕ} 39 94 = λ f. omega (arith, f) in
       let parts = cut 94 (text_of s.atom) (text_of t.atom) (exponent_text (nat_abs s.power)) (exponent_text (nat_abs t.power)) (atom_lacks 94 s.atom caret quote a) (atom_lacks 94 t.atom caret quote b) (exponent_begins (nat_abs s.power)) (exponent_begins (nat_abs t.power)) e in
       (atom_told s.atom t.atom a b parts.0, exponent_told (nat_abs s.power) (nat_abs t.power) small low parts.1)
 
@@ -170,7 +170,8 @@ module _ (bases : List (List ℕ)) (n : ℕ) (names : ArePlain bases n) where
   are_words [] told = tt
   are_words (t ∷ ts) (told, small, more) = (
     factor_lacks 32 t blank (λ f. omega (arith, f)) (λ f. omega (arith, f)) told small,
-    ((λ e. no_front (text_of t.atom) (exponent_text (nat_abs t.power)) (atom_some t.atom told) e), are_words ts more),
+    (λ e. no_front (text_of t.atom) (exponent_text (nat_abs t.power)) (atom_some t.atom told) e),
+    are_words ts more,
   )
 
   all_lack : (m : ℕ) (ts : List Term) → IsMark m → 39 ≢ m → 94 ≢ m → AreTold ts → AllLack factor m ts
@@ -185,7 +186,7 @@ module _ (bases : List (List ℕ)) (n : ℕ) (names : ArePlain bases n) where
       let first : factor s ≡ factor t = cc e in
       let rest : map factor ss ≡ map factor ts = cc e in
       let same = factor_told s t a b small low first in
-      (same.0, (same.1, alike ss ts more others rest))
+      (same.0, same.1, alike ss ts more others rest)
 
   factors_told : (ss ts : List Term) → AreTold ss → AreTold ts → factors ss ≡ factors ts → AreAlike ss ts
   factors_told ss ts a b e = alike ss ts a b (joined_cut factor ss ts (are_words ss a) (are_words ts b) e)
@@ -220,9 +221,9 @@ module _ (bases : List (List ℕ)) (n : ℕ) (names : ArePlain bases n) where
 
   both_told : (fs gs ds es : List Term) → AreTold fs → AreTold gs → AreTold ds → AreTold es → factors fs ++ divisors ds ≡ factors gs ++ divisors es → AreAlike fs gs × AreAlike ds es
   both_told fs gs ds es a b c d e =
-      let quote : 39 ≢ 47 = λ f. omega (arith, f) in
-      let other : 94 ≢ 47 = λ f. omega (arith, f) in
-      let space : 32 ≢ 47 = λ f. omega (arith, f) in
+      let quote : ◌≢◌ {A = ℕ} 39 47 = λ f. omega (arith, f) in
+      let other : ◌≢◌ {A = ℕ} 94 47 = λ f. omega (arith, f) in
+      let space : ◌≢◌ {A = ℕ} 32 47 = λ f. omega (arith, f) in
       let parts = cut 47 (factors fs) (factors gs) (divisors ds) (divisors es) (factors_lack 47 fs slash quote other space a) (factors_lack 47 gs slash quote other space b) (divisors_begin ds) (divisors_begin es) e in
       (factors_told fs gs a b parts.0, divisors_told ds es c d parts.1)
 
@@ -231,14 +232,14 @@ module _ (bases : List (List ℕ)) (n : ℕ) (names : ArePlain bases n) where
   no_one [] [] a b e = let f : 49 ∷ [] ≡ [] = e in cc f
   no_one [] (d ∷ ds) a b e =
       let whole : 49 ∷ [] ≡ 47 ∷ factors (d ∷ ds) = e in
-      let f : 49 ≡ 47 = cc whole in
+      let f : ◌≡◌ {A = ℕ} 49 47 = cc whole in
       omega (arith, f)
   no_one (t ∷ ts) ds (told, small, more) b e =
-      let over : 49 ≢ 47 = λ f. omega (arith, f) in
-      let space : 49 ≢ 32 = λ f. omega (arith, f) in
-      let power : 49 ≢ 94 = λ f. omega (arith, f) in
-      let first = cut 47 (49 ∷ []) (factors (t ∷ ts)) [] (divisors ds) (over, tt) (factors_lack 47 (t ∷ ts) slash (λ f. omega (arith, f)) (λ f. omega (arith, f)) (λ f. omega (arith, f)) (told, (small, more))) tt (divisors_begin ds) e in
-      let second = first_cut factor (49 ∷ []) t ts (space, tt) (are_words (t ∷ ts) (told, (small, more))) first.0 in
+      let over : ◌≢◌ {A = ℕ} 49 47 = λ f. omega (arith, f) in
+      let space : ◌≢◌ {A = ℕ} 49 32 = λ f. omega (arith, f) in
+      let power : ◌≢◌ {A = ℕ} 49 94 = λ f. omega (arith, f) in
+      let first = cut 47 (49 ∷ []) (factors (t ∷ ts)) [] (divisors ds) (over, tt) (factors_lack 47 (t ∷ ts) slash (λ f. omega (arith, f)) (λ f. omega (arith, f)) (λ f. omega (arith, f)) (told, small, more)) tt (divisors_begin ds) e in
+      let second = first_cut factor (49 ∷ []) t ts (space, tt) (are_words (t ∷ ts) (told, small, more)) first.0 in
       let third = cut 94 (49 ∷ []) (text_of t.atom) [] (exponent_text (nat_abs t.power)) (power, tt) (atom_lacks 94 t.atom caret (λ f. omega (arith, f)) told) tt (exponent_begins (nat_abs t.power)) second in
       atom_no_one t.atom told third.0
 
@@ -246,7 +247,7 @@ module _ (bases : List (List ℕ)) (n : ℕ) (names : ArePlain bases n) where
   filter_told p [] h = tt
   filter_told p (t ∷ ts) h = go (p t) (filter_told p ts h.2) where
     go : (b : Bool) → AreTold (filter p ts) → AreTold (cond b (t ∷ filter p ts) (filter p ts))
-    go true rest = (h.0, (h.1, rest))
+    go true rest = (h.0, h.1, rest)
     go false rest = rest
 
   terms_told : (ss ts : List Term) → AreTold ss → AreTold ts → text ss ≡ text ts → AreSame ss ts
@@ -266,11 +267,11 @@ module _ (bases : List (List ℕ)) (n : ℕ) (names : ArePlain bases n) where
 
   -- ---- in the order of printing
   with_told : (t : Term) (ss : List Term) → IsTold t.atom → nat_abs t.power ≤ 2147483647 → AreTold ss → AreTold (with_term bases t ss)
-  with_told t [] told small rest = (told, (small, tt))
+  with_told t [] told small rest = (told, small, tt)
   with_told t (s ∷ ss) told small rest = go (stands_before bases t s) (with_told t ss told small rest.2) where
     go : (b : Bool) → AreTold (with_term bases t ss) → AreTold (cond b (t ∷ s ∷ ss) (s ∷ with_term bases t ss))
-    go true more = (told, (small, rest))
-    go false more = (rest.0, (rest.1, more))
+    go true more = (told, small, rest)
+    go false more = (rest.0, rest.1, more)
 
   ordered_told : (ts : List Term) → AreTold ts → AreTold (ordered_terms bases ts)
   ordered_told [] h = tt
@@ -281,7 +282,8 @@ module _ (bases : List (List ℕ)) (n : ℕ) (names : ArePlain bases n) where
   kept_told [] normal fit held = tt
   kept_told (t ∷ ts) normal fit held = (
     held t.atom (λ none. some t.power head (sym (power_in-head t ts before) ∙ none)),
-    (leb-true (nat_abs t.power) 2147483647 (and_parts (in_range t.power) (all_in_range ts) fit).0, kept_told ts (tail_normal t ts normal) (and_parts (in_range t.power) (all_in_range ts) fit).1 others),
+    leb-true (nat_abs t.power) 2147483647 (and_parts (in_range t.power) (all_in_range ts) fit).0,
+    kept_told ts (tail_normal t ts normal) (and_parts (in_range t.power) (all_in_range ts) fit).1 others,
   ) where
     before : IsTrue (is_before_all t.atom ts)
     before = head_before_all t ts normal

@@ -24,7 +24,7 @@ pub record FitsPart (p : Part) : Type 0 where
   pub row : p.row < 2 ^ 32
   pub times : FitsSigned w64 p.times
 
--- there are at most as many slots as 32 bits number
+-- slots are numbered in 32 bits
 pub record FitsYes (c : Yes) : Type 0 where
   pub slots : length c.solution < 2 ^ 32
   pub rigid_slots : length c.rigid < 2 ^ 32
@@ -46,15 +46,15 @@ FitsRefusal (Some c) = FitsNo c
 
 -- ---- certificates that are printed alike
 
--- each slot has its parts, and the base units of all units have names: those that are declared, so many, and in `rigid`
--- those of unit parameters, of which there are not more than units
+-- each slot has its parts, and the base units of all units have names: so many declared ones, and in `rigid` those of
+-- unit parameters too, of which there are not more than units in `rigid`
 pub record IsNamed (bases : ℕ) (c : Yes) : Type 0 where
   pub per_slot : length c.parts ≡ length c.solution
   pub solution : All (BasesBelow bases) c.solution
   pub back : All (BasesBelow bases) c.back
   pub rigid : All (BasesBelow (bases + length c.rigid)) c.rigid
 
--- Certificates of a program of which these things are asked are the same if their texts are.
+-- Such certificates of a formed program, whose numbers fit into their fields, are the same if their texts are.
 abbrev pub TextsDetermineCertificates : Type 0
 TextsDetermineCertificates =
     (p : ProgramTree) (list others : List Yes) (refusal other : Option No) → IsFormed p →
@@ -62,7 +62,8 @@ TextsDetermineCertificates =
     All (IsNamed (length p.bases)) others → All FitsYes others → FitsRefusal other →
     certificates_text p list refusal ≡ certificates_text p others other → (list ≡ others) × (refusal ≡ other)
 
--- Valid and tidy certificates of a program, as `prove` makes them, are the same if their texts are and numbers fit.
+-- Valid and tidy certificates of a formed program, as `prove` makes them, are the same if their texts are. Their numbers
+-- must fit into their fields.
 abbrev pub TextsDetermineProofs : Type 0
 TextsDetermineProofs =
     (p : ProgramTree) (proofs others : Proofs) → IsFormed p →

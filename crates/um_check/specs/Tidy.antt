@@ -1,5 +1,5 @@
--- What is promised of the certificates that are made, beside their being valid: they say nothing twice, each thing in
--- order, and of declared base units alone.
+-- What is promised of the certificates that are made, beside their validity: they list rows in order, each at most
+-- once, and their units hold declared base units alone.
 -- Source: this project's own.
 use Rattle.std.specs.Prelude.{◌≢◌, ℕ, ◌+◌, ◌<◌, ◌≤◌, All, List, [], ◌∷◌, length, pos}
 use Rattle.um_tree.specs.Formed.{BasesBelow}
@@ -19,8 +19,8 @@ pub record AreTidyParts (parts : List Part) : Type 0 where
   pub powers : All (λ p. p.times ≢ pos 0) parts
   pub few : length parts ≤ 4294967295
 
--- and the units hold declared base units alone, or those of unit parameters, which come after them, where these are
--- units of their own
+-- all parts are tidy, and the units hold declared base units alone. Those of `rigid` may hold base units of unit
+-- parameters too, which come after the declared ones
 pub record IsTidyYes (bases parameters : ℕ) (c : Yes) : Type 0 where
   pub parts : All AreTidyParts c.parts
   pub solution : All (BasesBelow bases) c.solution

@@ -1,4 +1,4 @@
-use Rattle.std.proofs.Common.{ℕ, ◌<◌, cond, [], map, length, refl, sym, ap, ◌∙◌, subst, arith}
+use Rattle.std.proofs.Common.{◌≡◌, ℕ, ◌<◌, cond, [], map, length, refl, sym, ap, ◌∙◌, subst, arith}
 use Rattle.std.specs.Prelude.{All, IsTrue, nat_eq}
 use Rattle.std.proofs.lemmas.List.{length-map}
 use Rattle.um_units.specs.PowerMap.{one, nth, replace}
