@@ -4,7 +4,7 @@ mod Loops
 mod AfterSteps
 mod StepEnds
 mod Parts
-mod TidyParts
+pub mod TidyParts
 pub mod WayBack
 mod RowStops
 pub mod Reached

@@ -7,7 +7,7 @@ mod WayBackSteps
 mod Closed
 mod DeclaredUnits
 mod Judged
-mod TidyYes
+pub mod TidyYes
 mod ValidYes
 mod ValidNo
 pub mod CertifiedTypings
