@@ -6,6 +6,8 @@ mod AskedCalls
 mod ImageValues
 mod ExecStatuses
 pub mod CallStage
+pub mod CodeRuns
+pub mod CallEnds
 pub mod CallStatuses
 pub mod UniqueReplies
 pub mod CallsDone
@@ -15,3 +17,4 @@ pub mod ExecAnswers
 pub mod TwinArguments
 pub mod TwinAnswers
 pub mod TwinDone
+pub mod EndsAsMeant
