@@ -15,6 +15,7 @@ import argparse
 import inspect
 import struct
 import sys
+from collections.abc import Callable
 from pathlib import Path
 
 sys.path.insert(0, str(Path(__file__).resolve().parent.parent / "tools"))
@@ -91,14 +92,13 @@ def main() -> None:
     """Carries out the words."""
     reader = argparse.ArgumentParser(description=__doc__, formatter_class=argparse.RawDescriptionHelpFormatter)
     shapes = reader.add_subparsers(dest="shape", required=True)
-    for make in (straight, crossing, pairs):
-        shape = shapes.add_parser(make.__name__)
-        shape.set_defaults(make=make)
-        for name in inspect.signature(make).parameters:
-            shape.add_argument(name, metavar=name.upper(), type=count)
+    makers: dict[str, Callable[..., bytes]] = {"straight": straight, "crossing": crossing, "pairs": pairs}
+    for name, make in makers.items():
+        shape = shapes.add_parser(name)
+        for size in inspect.signature(make).parameters:
+            shape.add_argument(size, metavar=size.upper(), type=count)
     asked = vars(reader.parse_args())
-    make, _ = asked.pop("make"), asked.pop("shape")
-    sys.stdout.buffer.write(make(**asked))
+    sys.stdout.buffer.write(makers[asked.pop("shape")](**asked))
 
 
 if __name__ == "__main__":

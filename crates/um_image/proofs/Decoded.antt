@@ -1,5 +1,5 @@
 -- What `decode` answers, by what reading gives.
-use Rattle.std.proofs.Common.{◌≡◌, sym, subst, ap, ◌∙◌, ℕ, ◌<◌, ◌≤◌, List, [], ◌∷◌, length, map, All, Result, Ok, Err, arith}
+use Rattle.std.proofs.Common.{◌≡◌, ◌⊎◌, inl, inr, refl, sym, subst, ap, ◌∙◌, ℕ, ◌-◌, ◌<◌, ◌≤◌, List, [], ◌∷◌, length, map, All, Result, Ok, Err, arith}
 use Rattle.um_tree.specs.declared.program.Records.{Records}
 use Rattle.um_tree.specs.ProgramTree.{RecordTree, record_tree}
 use Rattle.um_verify.specs.ImageTree.{ImageTree, HasForm}
@@ -10,10 +10,11 @@ use Rattle.um_image.specs.Encoding.{written, spell, FunctionPart, ImageParts, pa
 use Rattle.um_image.specs.Places.{IsBadAt, IsWritable, PartsFit}
 use Rattle.um_image.specs.Reading.{◌>>=◌, Fails, letters_at, records_at, last_functions_at, image_at}
 use Rattle.um_image.specs.FunctionsRead.{Holds, image_of_parts, kept_image}
+use Rattle.um_image.specs.Laws.{BytesAreAnswered}
 use Rattle.um_image.proofs.Formats.{IsBytes, not_both, item_format, rest_of}
 use Rattle.um_image.proofs.ItemFormats.{own_bytes, AreLetters, letters_item}
 use Rattle.um_image.proofs.PartFormats.{with_functions, records_format}
-use Rattle.um_image.proofs.ReadLaws.{read_takes, read_again, refused_there, is_bytes}
+use Rattle.um_image.proofs.ReadLaws.{read_takes, read_again, read_refused, refused_there, is_bytes}
 use Rattle.um_image.proofs.ImagesAsParts.{parts_back, image_back, form_from, records_few, written_image}
 
 abbrev value_or : ImageParts → Result ImageParts ℕ → ImageParts
@@ -90,3 +91,14 @@ one_image image other v w same =
     let own = read_again (image_parts image) v.numbers (written_image image v.form) in
     let its = ap image_at same ∙ read_again (image_parts other) w.numbers (written_image other w.form) in
     sym (image_back image v.form) ∙ ap image_of_parts (same_parts (image_at (image_bytes image)) (image_parts image) (image_parts other) own its) ∙ image_back other w.form
+
+pub bytes_are_answered : BytesAreAnswered
+bytes_are_answered bytes small few = by (image_at bytes) refl where
+  b : IsBytes bytes
+  b = is_bytes bytes small
+
+  by : (r : Result ImageParts ℕ) → image_at bytes ≡ r → ((image : ImageTree) × IsWritable image × (bytes ≡ image_bytes image) × (length image.records ≤ 16777216)) ⊎ ((at : ℕ) × IsBadAt bytes at)
+  by (Ok p) e =
+      let image = image_of_parts p in
+      inl (image, is_writable bytes b few image p e refl, has_bytes bytes b few image p e refl, few_records bytes b few image p e refl)
+  by (Err left) e = inr (length bytes - left, (read_refused bytes left b e).0)

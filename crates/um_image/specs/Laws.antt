@@ -1,6 +1,6 @@
 -- What the image of a program and images as bytes come to.
 -- Source: this project's own.
-use Rattle.std.specs.Prelude.{◌≡◌, ◌<◌, ◌^◌, ℕ, All, List, length, None, Result, Ok, Err}
+use Rattle.std.specs.Prelude.{◌≡◌, ◌<◌, ◌≤◌, ◌^◌, ◌⊎◌, ℕ, All, List, length, None, Result, Ok, Err}
 use Rattle.um_tree.specs.ProgramTree.{ProgramTree}
 use Rattle.um_tree.specs.Formed.{IsFormed}
 use Rattle.um_shape.specs.FirstFault.{first_fault}
@@ -51,3 +51,10 @@ abbrev pub BytesSpellOneImage : Type 0
 BytesSpellOneImage =
     (image other : ImageTree) → IsWritable image → IsWritable other → image_bytes image ≡ image_bytes other →
     image ≡ other
+
+-- at most 16,777,216 bytes are those of an image, or they are refused at some place
+abbrev pub BytesAreAnswered : Type 0
+BytesAreAnswered =
+    (bytes : List ℕ) → All (λ x. x < 256) bytes → length bytes ≤ 16777216 →
+    ((image : ImageTree) × IsWritable image × (bytes ≡ image_bytes image) × (length image.records ≤ 16777216))
+    ⊎ ((at : ℕ) × IsBadAt bytes at)

@@ -1,6 +1,6 @@
 -- What holds of the grammar of programs and of the answers of `parse`.
 -- Source: this project's own.
-use Rattle.std.specs.Prelude.{◌≡◌, ◌↔◌, ℕ, Bool, true, false, List, ◌∷◌, ◌++◌, Result, Ok, Err}
+use Rattle.std.specs.Prelude.{◌≡◌, ◌≢◌, ◌↔◌, ◌⊎◌, ℕ, Bool, true, false, List, ◌∷◌, ◌++◌, Result, Ok, Err}
 use Rattle.um_syntax.specs.declared.token.Kind.{Kind}
 use Rattle.um_syntax.specs.declared.token.Kind.TheVariants as kind
 use Rattle.um_syntax.specs.declared.token.Token.{Token}
@@ -14,7 +14,7 @@ use Rattle.um_types.specs.declared.parse.ParseStop.{ParseStop}
 use Rattle.um_types.specs.declared.parse.ParseStop.TheVariants as stop
 use Rattle.um_parse.specs.DeclGrammar.{IsProgram}
 use Rattle.um_parse.specs.ProgramHeights.{program_height}
-use Rattle.um_parse.specs.Parsed.{Parsed}
+use Rattle.um_parse.specs.Parsed.{IsRead, Parsed}
 
 -- a list of tokens is one program at most
 abbrev pub ProgramsAreUnique : Type 0
@@ -35,6 +35,25 @@ abbrev pub AnswersAreUnique : Type 0
 AnswersAreUnique =
     (tokens : List Token) (end : ℕ) (one other : Result RawProgram ParseStop) → Parsed tokens end one
     → Parsed tokens end other → AreSameAnswer one other
+
+-- ---- that there is an answer
+
+-- the tokens are a program within the limits, or there is a refusal of them
+abbrev pub AreReadOrRefused : List Token → ℕ → Type 0
+AreReadOrRefused tokens end =
+    ((ds : List DeclSyntax) × IsRead tokens ds)
+    ⊎ ((refusal : ParseStop) × (refusal ≢ stop.NoMemory) × Parsed tokens end (Err refusal))
+
+-- so it is with each list of tokens
+abbrev pub EachListIsAnswered : Type 0
+EachListIsAnswered = (tokens : List Token) (end : ℕ) → AreReadOrRefused tokens end
+
+-- it is decided whether tokens begin a program, and whether they are one
+abbrev pub ProgramsAreDecided : Type 0
+ProgramsAreDecided =
+    (tokens : List Token) →
+    (BeginsText IsProgram tokens ⊎ (BeginsText IsProgram tokens → ⊥))
+    × (((ds : List DeclSyntax) × IsProgram tokens ds) ⊎ ((ds : List DeclSyntax) → IsProgram tokens ds → ⊥))
 
 -- ---- the last declaration
 

@@ -14,5 +14,5 @@ pub mod UniqueReadings
 pub mod HeadNames
 pub mod NameChecks
 pub mod SignatureHeads
-mod NeverTwice
+pub mod NeverTwice
 mod Examples

@@ -1,6 +1,6 @@
 mod Firsts
 mod Scalars
-mod NameTests
+pub mod NameTests
 mod TakenNames
 mod OverRecords
 mod RecordHeads
@@ -14,5 +14,4 @@ mod Loop
 mod EachBody
 mod Taken
 mod TakenMany
-mod TopItems
 mod TopFits
