@@ -10,6 +10,7 @@ use Rattle.um_cells.specs.Arguments.{AreArgumentsOf}
 use Rattle.um_machine.specs.declared.code.Code.{Code}
 use Rattle.um_gen.specs.ProgramCode.{program_code}
 use Rattle.um_gen.proofs.EndsAsMeant.{outcomes_are_reached}
+use Rattle.um_vm.proofs.Calls.{one_outcome, counted_once, counted_ends, ends_counted, run_is_meant}
 use Rattle.um_run.specs.Calls.{CallTree, call_values}
 use Rattle.um_run.proofs.CallLaws.{calls_are_typed}
 use Rattle.um_front.specs.Stages.{CheckedTree, IsCheckedText}
@@ -19,7 +20,6 @@ use Rattle.um_call_answers.specs.declared.way.Way.TheVariants as way
 use Rattle.um_call_answers.specs.AskedCall.{AskedCall}
 use Rattle.um_call_answers.specs.OfCall.{IsAskedCall}
 use Rattle.um_call_answers.specs.CallAnswer.{EndsBy}
-use Rattle.um_call_answers.proofs.CodeRuns.{one_outcome, counted_once, counted_ends, ends_counted, run_is_meant}
 
 module _ (budget : ℕ) (p : ProgramTree) (call : CallTree) where
   abbrev code : Code

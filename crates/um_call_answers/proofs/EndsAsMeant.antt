@@ -14,6 +14,7 @@ use Rattle.um_show.specs.ValueText.{value_text}
 use Rattle.um_machine.specs.Machine.{EndsWith}
 use Rattle.um_gen.specs.ProgramCode.{program_code}
 use Rattle.um_gen.proofs.EndsAsMeant.{outcomes_are_reached}
+use Rattle.um_vm.proofs.Calls.{counted_ends, run_is_meant}
 use Rattle.um_scale.specs.Sizes.{AreSizes, sizes}
 use Rattle.um_scale.specs.RescaledLiterals.{misfit_in, rescaled_program}
 use Rattle.um_scale.specs.RescaledInputs.{rescaled_input}
@@ -33,7 +34,6 @@ use Rattle.um_call_answers.specs.CallAnswer.{steps_text, IsOutcomeReply, RunAnsw
 use Rattle.um_call_answers.specs.TwinAnswer.{misfit_among, rescaled_values}
 use Rattle.um_call_answers.specs.EndLaws.{CallsEndAsMeant, WaysAnswerAlike, StepsFollowRuns, TwinsEndAsMeant}
 use Rattle.um_call_answers.proofs.TwinArguments.{all_fit}
-use Rattle.um_call_answers.proofs.CodeRuns.{counted_ends, run_is_meant}
 use Rattle.um_call_answers.proofs.CallEnds.{meant_ends, ends_meant, checked_shaped, asked_arguments}
 
 pub calls_end_as_meant : CallsEndAsMeant

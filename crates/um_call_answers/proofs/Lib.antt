@@ -6,7 +6,6 @@ mod AskedCalls
 mod ImageValues
 mod ExecStatuses
 pub mod CallStage
-pub mod CodeRuns
 pub mod CallEnds
 pub mod CallStatuses
 pub mod UniqueReplies

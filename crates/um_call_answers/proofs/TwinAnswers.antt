@@ -8,6 +8,7 @@ use Rattle.um_tree.specs.ProgramTree.{ProgramTree}
 use Rattle.um_tree.specs.Formed.{IsFormed}
 use Rattle.um_show.specs.ValueText.{value_text}
 use Rattle.um_gen.specs.ProgramCode.{program_code}
+use Rattle.um_vm.proofs.Calls.{one_outcome}
 use Rattle.um_scale.specs.RescaledLiterals.{misfit_in, rescaled_program}
 use Rattle.um_sizes.specs.declared.read.ScalesRefusal.{ScalesRefusal}
 use Rattle.um_sizes.specs.declared.read.ScalesRefusal.TheVariants as scales_refusal
@@ -21,7 +22,6 @@ use Rattle.um_front.proofs.CheckedTexts.{shaped_is_formed}
 use Rattle.um_front.proofs.StageLaws.{checked_answered, checked_once}
 use Rattle.um_call_answers.specs.AskedCall.{AskedCall}
 use Rattle.um_call_answers.specs.TwinAnswer.{IsSecondReply, AreValueReplies, IsStopReply, BySecond, AreOutcomeReplies, TwinRunAnswer, misfit_among, rescaled_values, InputsAnswer, TwinLiteralsAnswer, SizedAnswer, ByTwinSizes, IsTwinAnswer, TwinAnswer}
-use Rattle.um_call_answers.proofs.CodeRuns.{one_outcome}
 use Rattle.um_call_answers.proofs.CallStage.{call_answered, call_said_once}
 
 -- ---- statuses

@@ -8,6 +8,7 @@ use Rattle.um_tree.specs.Meaning.{outcome_of_call}
 use Rattle.um_show.specs.ValueText.{value_text}
 use Rattle.um_gen.specs.ProgramCode.{program_code}
 use Rattle.um_gen.proofs.EndsAsMeant.{outcomes_are_reached}
+use Rattle.um_vm.proofs.Calls.{one_outcome}
 use Rattle.um_scale.specs.RescaledLiterals.{rescaled_program}
 use Rattle.um_sizes.specs.declared.read.ScalesRefusal.{ScalesRefusal}
 use Rattle.um_sizes.specs.declared.read.ScalesRefusal.TheVariants as scales_refusal
@@ -24,7 +25,6 @@ use Rattle.um_call_answers.specs.AskedCall.{AskedCall}
 use Rattle.um_call_answers.specs.TwinAnswer.{IsSecondReply, AreValueReplies, AreOutcomeReplies, TwinRunAnswer, misfit_among, rescaled_values, InputsAnswer, TwinLiteralsAnswer, SizedAnswer, ByTwinSizes, IsTwinAnswer, TwinAnswer}
 use Rattle.um_call_answers.specs.OfCall.{IsAskedCall}
 use Rattle.um_call_answers.specs.Passing.{GivesTwins}
-use Rattle.um_call_answers.proofs.CodeRuns.{one_outcome}
 use Rattle.um_call_answers.proofs.CallStage.{call_given}
 
 module _ (word : List ℕ) (asked : AskedCall) (c : CheckedTree) (g : GivesTwins word asked c) (text : List ℕ) (status : Status) where

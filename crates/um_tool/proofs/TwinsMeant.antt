@@ -6,6 +6,7 @@ use Rattle.um_tree.specs.ValueTree.{without_units}
 use Rattle.um_tree.specs.ProgramTree.{ProgramTree}
 use Rattle.um_tree.specs.Meaning.{outcome_of_call}
 use Rattle.um_scaling.proofs.ScalingLaw.{scaling_law}
+use Rattle.um_vm.proofs.Calls.{run_is_meant}
 use Rattle.um_scale.specs.Sizes.{AreSizes, sizes}
 use Rattle.um_scale.specs.RescaledLiterals.{misfit_in, rescaled_program}
 use Rattle.um_scale.specs.RescaledInputs.{rescaled_input}
@@ -35,7 +36,6 @@ use Rattle.um_answers.specs.RescaleAnswer.{LiteralsAnswer, BySizes, IsRescaled, 
 use Rattle.um_call_answers.specs.AskedCall.{AskedCall}
 use Rattle.um_call_answers.specs.OfCall.{IsAskedCall}
 use Rattle.um_call_answers.specs.TwinAnswer.{TwinRunAnswer, misfit_among, rescaled_values, InputsAnswer, TwinLiteralsAnswer, SizedAnswer, ByTwinSizes, IsTwinAnswer, TwinAnswer}
-use Rattle.um_call_answers.proofs.CodeRuns.{run_is_meant}
 use Rattle.um_call_answers.proofs.CallEnds.{checked_shaped}
 use Rattle.um_call_answers.proofs.EndsAsMeant.{second_is_meant}
 use Rattle.um_call_answers.proofs.TwinArguments.{all_fit}

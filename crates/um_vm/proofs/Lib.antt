@@ -2,5 +2,6 @@ mod Taken
 mod Settled
 mod Acted
 mod Shown
+pub mod Calls
 mod Counted
 mod Examples

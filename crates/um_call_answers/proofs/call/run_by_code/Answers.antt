@@ -4,8 +4,8 @@ use Rattle.um_tree.specs.ValueTree.{outcome_tree}
 use Rattle.um_tree.specs.ProgramTree.{program_tree}
 use Rattle.um_machine.specs.Machine.{EndsWith}
 use Rattle.um_gen.specs.ProgramCode.{program_code}
+use Rattle.um_vm.proofs.Calls.{counted_ends}
 use Rattle.um_run.specs.Calls.{call_tree, call_values}
-use Rattle.um_call_answers.proofs.CodeRuns.{counted_ends}
 use Rattle.um_call_answers.proofs.call.run_by_code.Goals as goal
 
 pub returns : goal.returns
