@@ -1,7 +1,8 @@
 mod Taken
 mod Settled
 mod Acted
-mod Shown
 pub mod Calls
+mod Leaping
+mod Shown
 mod Counted
 mod Examples

@@ -13,4 +13,5 @@ pub mod Laws
 pub mod Applying
 pub mod Placing
 pub mod Stepping
+pub mod Several
 pub mod Phases

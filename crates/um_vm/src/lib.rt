@@ -20,6 +20,7 @@ mod phase;
 mod progress;
 mod run;
 mod runner;
+mod several;
 mod stack;
 mod step;
 mod stop;
