@@ -12,7 +12,7 @@ use um_units::NoMemory;
 ///
 /// A call ends as the program's meaning has it: with a value, with a trap, or with the budget used up.
 pub trait Runner {
-    /// The programs whose functions it runs: one by code alone runs each program that has this code.
+    /// The programs whose functions it runs. A runner that keeps code alone runs each program that has this code.
     ghost runs: { Self → ProgramTree → Type 0 };
 
     /// Calls function `f`, counted from 0, on values in the order of its parameters. The call itself and each call
