@@ -39,8 +39,8 @@ IsOutcomeReply p t (value_outcome v) steps text status = IsValueReply p t v step
 IsOutcomeReply p t (trap_outcome why) steps text status = IsTrapReply why text status
 IsOutcomeReply p t budget_outcome steps text status = IsReply text status (line (codes "error 13: budget")) BudgetEnd
 
--- Run this way at the budget, the call ends with this outcome: by the tree with that of its meaning, by the code with that
--- of the run of the program's code, and if steps are counted after so many.
+-- Run this way at the budget, the call ends with this outcome: by the tree with that of its meaning, by the code with
+-- that of the run of the program's code. If steps are counted, it ends after so many.
 abbrev pub EndsBy : Way → ℕ → ProgramTree → CallTree → OutcomeTree → Option ℕ → Type 0
 EndsBy way.Tree budget p call o steps =
     (outcome_of_call p call.function (call_values call) budget ≡ Some o) × (steps ≡ None)

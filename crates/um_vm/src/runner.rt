@@ -35,8 +35,8 @@ impl<'a> CodeRunner<'a> {
     ghost use Rattle.um_vm.specs.Counting.{CountsSteps};
     ghost use Rattle.um_vm.specs.Running.{IsCodeOf};
 
-    /// A runner of the program by its code, which must be what `generate` gives for it. Of the program it keeps nothing.
-    /// Takes no memory.
+    /// A runner of the program by its code, which must be what `generate` gives for it. It keeps the code alone. Takes
+    /// no memory.
     pub fn new(shaped: &Shaped, code: &'a Code) -> CodeRunner<'a>
         requires { code.now ≡ program_code (program_tree shaped.now).functions }
         ensures code { result ≡ code.now }
