@@ -1,8 +1,10 @@
-use Rattle.std.proofs.Common.{length, sym, subst, ◌∙◌, inl}
+use Rattle.std.proofs.Common.{List, length, sym, subst, ◌∙◌, inl}
 use Rattle.std.proofs.lemmas.Result.{IfOk-weaker}
 use Rattle.um_tree.specs.declared.program.Program.{Program}
 use Rattle.um_tree.specs.ProgramTree.{program_tree}
+use Rattle.um_measures.specs.declared.abbreviation.Abbreviation.{Abbreviation}
 use Rattle.um_run.specs.Calls.{AreClosedUnits}
+use Rattle.um_run.specs.Callable.{AreTablesOf}
 use Rattle.um_front.specs.declared.parts.CheckedParts.{CheckedParts}
 use Rattle.um_front.specs.Parts.{checked_tree}
 use Rattle.um_call_answers.specs.declared.way.Way.TheVariants as way
@@ -13,6 +15,12 @@ use Rattle.um_embed.proofs.opened.answer_in.Goals as goal
 pub callable_of-callable-requires-clause-closed : goal.callable_of-callable-requires-clause-closed
 callable_of-callable-requires-clause-closed c =
     subst (λ (p : Program). AreClosedUnits (length (program_tree p).bases) c.abbreviations-abbreviations.result.now) (sym c.shaped-shaped.ensures.shaped) c.abbreviations-abbreviations.ensures.closed
+
+pub callable_of-callable-requires-clause-tables : goal.callable_of-callable-requires-clause-tables
+callable_of-callable-requires-clause-tables c =
+    let checked = c.args.checked.now in let tables = c.args.prepared.now.tables in
+    subst (λ (p : Program). AreTablesOf (program_tree p) c.abbreviations-abbreviations.result.now tables) (sym c.shaped-shaped.ensures.shaped)
+    (subst (λ (shorts : List Abbreviation). AreTablesOf (program_tree checked.text.shaped) shorts tables) (sym c.abbreviations-abbreviations.ensures.abbreviations) c.requires.prepared.tables)
 
 pub answer_call_of-requires-clause-callable : goal.answer_call_of-requires-clause-callable
 answer_call_of-requires-clause-callable c =
