@@ -1,13 +1,13 @@
 mod General
 mod HeldVariables
-mod Renamed
-mod FunctionRows
-mod FunctionAnswers
+pub mod Renamed
+pub mod FunctionRows
+pub mod FunctionAnswers
 mod WayBackSteps
 mod Closed
 mod DeclaredUnits
-mod Judged
+pub mod Judged
 pub mod TidyYes
-mod ValidYes
-mod ValidNo
+pub mod ValidYes
+pub mod ValidNo
 pub mod CertifiedTypings
