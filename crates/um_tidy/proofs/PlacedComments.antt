@@ -23,14 +23,6 @@ pub spaces_join : (m n : ℕ) → spaces m ++ spaces n ≡ spaces (m + n)
 spaces_join zero n = let same : n ≡ zero + n = omega arith in ap spaces same
 spaces_join (suc m) n = let next : suc (m + n) ≡ suc m + n = omega arith in ap (λ xs. 32 ∷ xs) (spaces_join m n) ∙ ap spaces next
 
--- some spaces, and then the others
-pub spaces_left : (text more : List ℕ) (some left : ℕ) → some ≤ left → more ≡ text ++ spaces some → more ++ spaces (left - some) ≡ text ++ spaces left
-spaces_left text more some left fit added =
-    let all : some + (left - some) ≡ left = omega (arith, fit) in
-    ap (λ xs. xs ++ spaces (left - some)) added
-    ∙ append_assoc text (spaces some) (spaces (left - some))
-    ∙ ap (λ xs. text ++ xs) (spaces_join some (left - some) ∙ ap spaces all)
-
 -- ---- parts of a gap
 
 pub part_more : (xs : List ℕ) (a b c : ℕ) → a ≤ b → b ≤ c → slice_range xs a c ≡ slice_range xs a b ++ slice_range xs b c

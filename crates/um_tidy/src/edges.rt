@@ -1,5 +1,5 @@
 // Where white space stands beside a line feed. Comments stay as they are up to there. 16 places are seen at once.
-ghost use Rattle.std.specs.Prelude.{◌≡◌, ◌≤◌, ◌<◌, ◌+◌, ℕ, true, false, length, get_or};
+ghost use Rattle.std.specs.Prelude.{◌≡◌, ◌≤◌, ◌<◌, ◌+◌, true, length, get_or};
 ghost use Rattle.um_tidy.specs.Placed.{is_edge, NoEdges};
 
 use crate::feed::first_set;

@@ -19,7 +19,7 @@ pub(crate) struct Margin {
     pub plain: bool,
 }
 
-/// The white space at a place. It is mostly short, so eight bytes of it are taken one by one.
+/// The white space at a place.
 pub(crate) fn margin_at(gap: &[u8], from: usize) -> Margin
     requires short { length gap.now ≤ 1048576 }
     requires within { from ≤ length gap.now }
@@ -32,24 +32,7 @@ pub(crate) fn margin_at(gap: &[u8], from: usize) -> Margin
         width: 0,
         plain: true,
     };
-    for _ in 0..8 {
-        if !has_space(gap, margin.end) {
-            return margin;
-        }
-        margin = past_run(gap, margin, 1);
-    }
-    far_margin(gap, margin)
-}
-
-/// The same, 16 bytes at once where they are alike.
-fn far_margin(gap: &[u8], begun: Margin) -> Margin
-    requires short { length gap.now ≤ 1048576 }
-    requires narrow { IsNarrow gap.now begun }
-    ensures margin { (from : ℕ) → IsMargin gap.now from begun → IsMargin gap.now from result }
-    ensures end { prefix_len is_space (drop result.end gap.now) ≡ 0 }
-{
-    let mut margin = begun;
-    'far: while has_space(gap, margin.end) {
+    'runs: while has_space(gap, margin.end) {
         let more = run_len(gap, margin.end + 1, gap[margin.end]);
         margin = past_run(gap, margin, more + 1);
     }

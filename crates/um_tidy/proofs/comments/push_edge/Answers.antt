@@ -14,9 +14,9 @@ returns-clause-added c =
     let m = edge.margin in
     let is = c.requires.margin in
     let kept = c.args.text.now.items ++ slice_range gap c.args.from edge.end in
-    let before : c.extend_from_slice-2.new.self.items ≡ kept ++ 10 ∷ [] = c.in_ok-extend_from_slice-2.ensures.items ∙ ap (λ xs. xs ++ 10 ∷ []) c.in_ok-extend_from_slice.ensures.items in
+    let before : c.push_byte.new.self.items ≡ kept ++ 10 ∷ [] = c.in_ok-push_byte.ensures ∙ ap (λ xs. xs ++ 10 ∷ []) c.in_ok-push.ensures in
     IfOk-weaker c.push_front.result
-    (λ next. (g : List ℕ) → IsMargin g (edge.feed + 1) m → c.push_front.new.text.items ++ slice_range g next m.end ≡ c.extend_from_slice-2.new.self.items ++ front g (edge.feed + 1) m.line m.end)
+    (λ next. (g : List ℕ) → IsMargin g (edge.feed + 1) m → c.push_front.new.text.items ++ slice_range g next m.end ≡ c.push_byte.new.self.items ++ front g (edge.feed + 1) m.line m.end)
     (λ next. (last : Above → List ℕ → List ℕ) → (c.push_front.new.text.items ++ slice_range gap next m.end) ++ lines_from last gap m.end ≡ kept ++ 10 ∷ lines_from last gap (edge.feed + 1))
     (λ next added last.
     edge_laid kept (c.push_front.new.text.items ++ slice_range gap next m.end) (lines_from last gap m.end) (lines_from last gap (edge.feed + 1)) (front gap (edge.feed + 1) m.line m.end)
