@@ -54,6 +54,7 @@ impl Draft {
     }
 
     /// Adds the bytes from one place up to another.
+    #[inline(always)]
     pub fn push(&mut self, bytes: &[u8], from: usize, to: usize) -> Result<(), AllocError>
         requires order { from ≤ to }
         requires within { to ≤ length bytes.now }
@@ -67,6 +68,23 @@ impl Draft {
         Ok(())
     }
 
+    /// Adds the bytes from one place up to another, and a line feed.
+    #[inline(always)]
+    pub fn push_line(&mut self, bytes: &[u8], from: usize, to: usize) -> Result<(), AllocError>
+        requires order { from ≤ to }
+        requires within { to ≤ length bytes.now }
+        ensures { OnOk result (self.new.items ≡ (self.old.items ++ slice_range bytes.now from to) ++ 10 ∷ []) }
+    {
+        if to - from > 16 || bytes.len() - from < 16 {
+            self.push_all(&bytes[from..to])?;
+            return self.push_byte(b'\n');
+        }
+        self.reserve(17)?;
+        self.put_near(bytes, from, to - from);
+        self.put_byte(b'\n');
+        Ok(())
+    }
+
     /// Adds bytes.
     pub fn push_all(&mut self, bytes: &[u8]) -> Result<(), AllocError>
         ensures { OnOk result (self.new.items ≡ self.old.items ++ bytes.now) }
@@ -77,6 +95,7 @@ impl Draft {
     }
 
     /// Adds a byte.
+    #[inline(always)]
     pub fn push_byte(&mut self, byte: u8) -> Result<(), AllocError>
         ensures { OnOk result (self.new.items ≡ self.old.items ++ byte ∷ []) }
     {
@@ -103,6 +122,7 @@ impl Draft {
         self.push_few_spaces(16)
     }
 
+    #[inline(always)]
     fn push_few_spaces(&mut self, n: usize) -> Result<(), AllocError>
         requires { n ≤ 16 }
         ensures { OnOk result (self.new.items ≡ self.old.items ++ replicate n 32) }
@@ -142,7 +162,8 @@ impl Draft {
         requires few { n ≤ 16 }
         requires some { from + 16 ≤ length bytes.now }
         requires room { 16 ≤ self.old.room }
-        ensures { self.new.items ≡ self.old.items ++ take n (drop from bytes.now) }
+        ensures added { self.new.items ≡ self.old.items ++ take n (drop from bytes.now) }
+        ensures left { self.new.room + n ≡ self.old.room }
     {
         store_near(self.bytes.as_mut_slice(), self.len, bytes, from);
         self.len += n;

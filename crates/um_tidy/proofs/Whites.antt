@@ -8,7 +8,7 @@ use lib.Lanes.{chunk, zip2, top}
 use Rattle.std.proofs.lemmas.Bool.{false≢true, cases_eq, cases_lt, not-true, not-false}
 use Rattle.std.proofs.lemmas.List.{length-map, get_or-map, length-drop, drop-drop, get_or-drop}
 use Rattle.std.proofs.lemmas.Nat.{leading_top}
-use Rattle.std.proofs.lemmas.Simd.{map-map, zip2_splat, zip2_of_maps, length-chunk, get_or-chunk, mask_l-lt, mask_l-mod, first_set_mask_l, none_from_empty_mask, run_in_chunk_le, run_in_chunk_fails, run_in_chunk_stops}
+use Rattle.std.proofs.lemmas.Simd.{map-map, zip2_splat, zip2_of_maps, length-chunk, get_or-chunk, mask_l-lt, mask_l-mod, first_set_mask_l, run_in_chunk_le, run_in_chunk_fails, run_in_chunk_stops}
 use Rattle.um_syntax.specs.Gap.{is_space}
 use Rattle.um_tidy.specs.Gaps.{trimmed}
 use Rattle.um_tidy.specs.Placed.{others_mask}

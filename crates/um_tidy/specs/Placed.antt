@@ -48,8 +48,8 @@ pub record IsMargin (gap : List ℕ) (from : ℕ) (m : Margin) : Type 0 where
   pub feed : from < m.line → get_or gap (m.line - 1) 0 ≡ 10
   pub line : (k : ℕ) → m.line ≤ k → k < m.end → in_line (get_or gap k 0) ≡ true
   pub width : m.width ≡ width_from 0 (slice_range gap m.line m.end)
-  pub plain : m.plain ≡ true → slice_range gap m.line m.end ≡ spaces (m.end - m.line)
+  pub plain : m.others ≡ 0 → slice_range gap m.line m.end ≡ spaces (m.end - m.line)
 
--- its columns can be counted
+-- its columns can be counted, and its bytes
 abbrev pub IsNarrow : List ℕ → Margin → Type 0
-IsNarrow gap m = (m.width ≤ 4 * m.end) × (m.end ≤ length gap)
+IsNarrow gap m = (m.width ≤ 4 * m.end) × (m.others ≤ m.end) × (m.end ≤ length gap)

@@ -90,6 +90,7 @@ fn push_comments_from(
 }
 
 /// The first edge after the start of a comment. What stands before it stays as it is.
+#[inline(always)]
 fn edge_after(gap: &[u8], start: usize, last: usize) -> Edge
     requires short { length gap.now ≤ 1048576 }
     requires order { start < last }
@@ -105,13 +106,14 @@ fn edge_after(gap: &[u8], start: usize, last: usize) -> Edge
 {
     let feed = first_edge(gap, start + 1, last);
     Edge {
-        end: start + trimmed_len(&gap[start..feed]),
+        end: trimmed_len(&gap[..feed]),
         feed,
         margin: margin_at(gap, feed + 1),
     }
 }
 
 /// Adds a comment with the white space after it, up to the place that is told. From there to the next one all stays.
+#[inline(always)]
 fn push_edge(text: &mut Draft, gap: &[u8], from: usize, edge: Edge) -> Result<usize, AllocError>
     requires from { from ≤ edge.end }
     requires order { (edge.end ≤ edge.feed) × (edge.feed < length gap.now) }
@@ -127,15 +129,15 @@ fn push_edge(text: &mut Draft, gap: &[u8], from: usize, edge: Edge) -> Result<us
 {
     let at = edge.feed + 1;
     let margin = edge.margin;
-    if margin.plain && margin.line - at < 2 {
+    if margin.others == 0 && margin.line - at < 2 {
         return push_end(text, gap, from, edge.end, edge.feed);
     }
-    text.push(gap, from, edge.end)?;
-    text.push_byte(b'\n')?;
+    text.push_line(gap, from, edge.end)?;
     push_front(text, at, margin)
 }
 
 /// Adds the blank lines and the margin before a comment, up to the place that is told. From there on all stays.
+#[inline(always)]
 fn push_front(text: &mut Draft, at: usize, margin: Margin) -> Result<usize, AllocError>
     requires from { at ≤ margin.line }
     requires order { margin.line ≤ margin.end }
@@ -144,7 +146,7 @@ fn push_front(text: &mut Draft, at: usize, margin: Margin) -> Result<usize, Allo
         → text.new.items ++ slice_range gap next margin.end ≡ text.old.items ++ front gap at margin.line margin.end) }
 {
     let blank = margin.line - at;
-    if margin.plain && blank > 0 {
+    if margin.others == 0 && blank > 0 {
         return Ok(margin.line - 1);
     }
     push_blank_line(text, below_blank(blank))?;
@@ -164,6 +166,7 @@ fn below_blank(len: usize) -> Above
 
 /// Adds the end of a comment without the white space after it, if there is any.
 #[tactic(auto, using(crate::proofs::PlacedComments::end_stays, crate::proofs::PlacedComments::end_added))]
+#[inline(always)]
 fn push_end(
     text: &mut Draft,
     gap: &[u8],

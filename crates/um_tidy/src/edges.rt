@@ -6,6 +6,7 @@ use crate::feed::first_set;
 use std::simd::prelude::*;
 
 /// The first edge from a place on, or the last line feed.
+#[inline(always)]
 pub(crate) fn first_edge(gap: &[u8], from: usize, last: usize) -> usize
     requires some { 0 < from }
     requires order { from ≤ last }

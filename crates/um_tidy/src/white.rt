@@ -116,6 +116,7 @@ fn ends_in_space(bytes: &[u8], to: usize) -> bool
 }
 
 /// How many bytes stand at a place that are all the same as one: at most 16, and none if fewer than 16 bytes are left.
+#[inline(always)]
 pub(crate) fn run_len(bytes: &[u8], at: usize, byte: u8) -> usize
     requires { at ≤ length bytes.now }
     ensures within { at + result ≤ length bytes.now }
@@ -128,6 +129,7 @@ pub(crate) fn run_len(bytes: &[u8], at: usize, byte: u8) -> usize
 }
 
 /// How many of the next 16 bytes are the same as one.
+#[inline(always)]
 fn near_same(bytes: &[u8], at: usize, byte: u8) -> usize
     requires { at + 16 ≤ length bytes.now }
     ensures within { result ≤ 16 }

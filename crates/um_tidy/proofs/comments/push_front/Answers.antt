@@ -4,7 +4,7 @@ use Rattle.um_tidy.proofs.Margins.{front_pushed, front_plain}
 use Rattle.um_tidy.proofs.comments.push_front.Goals as goal
 
 pub returns-then-blank-gt0-clause-added : goal.returns-then-blank-gt0-clause-added
-returns-then-blank-gt0-clause-added c = λ gap is. front_plain c.args.text.now.items gap c.args.at c.args.margin is c.if-margin.true c.if-blank-gt0.true
+returns-then-blank-gt0-clause-added c = λ gap is. front_plain c.args.text.now.items gap c.args.at c.args.margin is c.if-margin-eq0.true c.if-blank-gt0.true
 
 pub returns-clause-added : goal.returns-clause-added
 returns-clause-added c = λ gap is.
