@@ -1,8 +1,8 @@
 -- White space before a comment, a run of like bytes at a time.
-use Rattle.std.proofs.Common.{◌≡◌, refl, sym, ap, ◌∙◌, ℕ, zero, suc, ◌+◌, ◌-◌, ◌*◌, ◌/◌, ◌<◌, ◌≤◌, ◌==◌, Bool, true, false, cond, not, List, [], ◌∷◌, ◌++◌, length, drop, get_or, replicate, append_assoc, Result, Ok, Err, IfOk, inl, inr, arith}
+use Rattle.std.proofs.Common.{◌≡◌, refl, sym, ap, ◌∙◌, ℕ, zero, suc, ◌+◌, ◌-◌, ◌*◌, ◌/◌, ◌<◌, ◌≤◌, ◌==◌, true, false, cond, List, [], ◌∷◌, ◌++◌, length, drop, get_or, replicate, append_assoc, Result, Ok, Err, IfOk, inl, inr, arith}
 use Rattle.std.specs.List.{prefix_len}
 use Rattle.std.specs.Prelude.{slice_range}
-use Rattle.std.proofs.lemmas.Bool.{false≢true, cases_lt, ne_eqb}
+use Rattle.std.proofs.lemmas.Bool.{cases_lt}
 use Rattle.std.proofs.lemmas.List.{append-nil, drop-drop, length-drop, get_or-drop, ext_get_or}
 use Rattle.std.proofs.lemmas.Simd.{length-replicate, get_or-replicate}
 use Rattle.um_syntax.specs.Gap.{is_space}
@@ -37,6 +37,9 @@ width_tabs w (suc n) some =
     ap (λ k. width_from k (replicate n 9)) next ∙ tabs_on (w / 4 + 1) n ∙ omega arith
 
 -- ---- one run more
+
+pub other_space : (c : ℕ) → is_space c ≡ true → (c ≡ 10 → ⊥) → (c ≡ 9 → ⊥) → (c ≡ 13 → ⊥) → c ≡ 32
+other_space c space no_feed no_tab no_return = grind arith
 
 module _ (gap : List ℕ) (from : ℕ) (m : Margin) (is : IsMargin gap from m) (n : ℕ) (some : 0 < n) (within : m.end + n ≤ length gap) where
   abbrev here : ℕ
@@ -80,7 +83,7 @@ module _ (gap : List ℕ) (from : ℕ) (m : Margin) (is : IsMargin gap from m) (
         let place : m.end + (n - 1) ≡ next - 1 = omega (arith, some) in
         ap (λ k. get_or gap k 0) (sym place) ∙ same (n - 1) (omega (arith, some)) ∙ feed
 
-    pub past_feeds : here ≡ 10 → IsMargin gap from (record { line = m.end + n; end = m.end + n; width = 0; plain = true })
+    pub past_feeds : here ≡ 10 → IsMargin gap from (record { line = m.end + n; end = m.end + n; width = 0; others = 0 })
     past_feeds feed = record {
       order = (omega (arith, is.order.0, is.order.1), omega arith);
       within = within;
@@ -91,7 +94,7 @@ module _ (gap : List ℕ) (from : ℕ) (m : Margin) (is : IsMargin gap from m) (
       plain = λ _. part_none gap next ∙ (let none : 0 ≡ next - next = omega arith in ap spaces none);
     }
 
-    pub past_tabs : here ≡ 9 → IsMargin gap from (record { line = m.line; end = m.end + n; width = m.width / 4 * 4 + 4 * n; plain = false })
+    pub past_tabs : here ≡ 9 → IsMargin gap from (record { line = m.line; end = m.end + n; width = m.width / 4 * 4 + 4 * n; others = m.others + n })
     past_tabs tab = record {
       order = (is.order.0, omega (arith, is.order.1));
       within = within;
@@ -99,23 +102,31 @@ module _ (gap : List ℕ) (from : ℕ) (m : Margin) (is : IsMargin gap from m) (
       feed = is.feed;
       line = line_more (ap in_line tab);
       width = sym (width_next ∙ ap (λ c. width_from m.width (replicate n c)) tab ∙ width_tabs m.width n some);
-      plain = λ h. absurd (false≢true h);
+      plain = λ h. absurd (omega (arith, h, some));
     }
 
-    plain_more : m.plain ≡ true → here ≡ 32 → slice_range gap m.line next ≡ spaces (next - m.line)
-    plain_more h blank =
-        let size : m.end - m.line + n ≡ next - m.line = omega (arith, is.order.1) in
-        row_more ∙ (λ i. is.plain h i ++ replicate n (blank i)) ∙ spaces_join (m.end - m.line) n ∙ ap spaces size
-
-    pub past_others : (here ≡ 10 → ⊥) → (here ≡ 9 → ⊥) → (b : Bool) → (b ≡ true → (m.plain ≡ true) × (here ≡ 32)) → IsMargin gap from (record { line = m.line; end = m.end + n; width = m.width + n; plain = b })
-    past_others no_feed no_tab b plain = record {
+    pub past_returns : here ≡ 13 → IsMargin gap from (record { line = m.line; end = m.end + n; width = m.width + n; others = m.others + n })
+    past_returns return = record {
       order = (is.order.0, omega (arith, is.order.1));
       within = within;
       space = space_more;
       feed = is.feed;
-      line = line_more (ap not (ne_eqb here 10 no_feed));
-      width = sym (width_next ∙ width_alike m.width n here (ne_eqb here 9 no_tab));
-      plain = λ h. plain_more (plain h).0 (plain h).1;
+      line = line_more (ap in_line return);
+      width = sym (width_next ∙ ap (λ c. width_from m.width (replicate n c)) return ∙ width_alike m.width n 13 refl);
+      plain = λ h. absurd (omega (arith, h, some));
+    }
+
+    pub past_blanks : here ≡ 32 → IsMargin gap from (record { line = m.line; end = m.end + n; width = m.width + n; others = m.others })
+    past_blanks blank = record {
+      order = (is.order.0, omega (arith, is.order.1));
+      within = within;
+      space = space_more;
+      feed = is.feed;
+      line = line_more (ap in_line blank);
+      width = sym (width_next ∙ ap (λ c. width_from m.width (replicate n c)) blank ∙ width_alike m.width n 32 refl);
+      plain = λ h.
+          let size : m.end - m.line + n ≡ next - m.line = omega (arith, is.order.1) in
+          row_more ∙ (λ i. is.plain h i ++ replicate n (blank i)) ∙ spaces_join (m.end - m.line) n ∙ ap spaces size;
     }
 
 -- a byte, and those after it that are like it
@@ -125,7 +136,7 @@ run_same gap end more same (suc k) less = let place : end + suc k ≡ end + 1 + 
 
 -- ---- white space laid out
 
-margin_size : (gap : List ℕ) (at : ℕ) (m : Margin) → IsMargin gap at m → m.plain ≡ true → slice_range gap m.line m.end ≡ spaces (width_from 0 (slice_range gap m.line m.end))
+margin_size : (gap : List ℕ) (at : ℕ) (m : Margin) → IsMargin gap at m → m.others ≡ 0 → slice_range gap m.line m.end ≡ spaces (width_from 0 (slice_range gap m.line m.end))
 margin_size gap at m is plain =
     let alone = is.plain plain in
     let wide : width_from 0 (slice_range gap m.line m.end) ≡ m.end - m.line = ap (width_from 0) alone ∙ width_spaces 0 (m.end - m.line) ∙ omega arith in
@@ -145,7 +156,7 @@ some_blank zero some = absurd (omega (arith, some))
 some_blank (suc n) some = refl
 
 -- one line feed and the spaces after it
-pub front_plain : (text gap : List ℕ) (at : ℕ) (m : Margin) → IsMargin gap at m → m.plain ≡ true → 0 < m.line - at
+pub front_plain : (text gap : List ℕ) (at : ℕ) (m : Margin) → IsMargin gap at m → m.others ≡ 0 → 0 < m.line - at
     → text ++ slice_range gap (m.line - 1) m.end ≡ text ++ front gap at m.line m.end
 front_plain text gap at m is plain some =
     let before : at < m.line = omega (arith, some) in
@@ -156,7 +167,7 @@ front_plain text gap at m is plain some =
     ∙ (λ i. (feed ∙ sym (some_blank (m.line - at) some)) i ++ margin_size gap at m is plain i))
 
 -- white space that stays
-pub front_stays : (text more gap : List ℕ) (next at : ℕ) (m : Margin) → IsMargin gap at m → m.plain ≡ true → m.line - at < 2 → next ≤ at → more ++ slice_range gap next at ≡ text
+pub front_stays : (text more gap : List ℕ) (next at : ℕ) (m : Margin) → IsMargin gap at m → m.others ≡ 0 → m.line - at < 2 → next ≤ at → more ++ slice_range gap next at ≡ text
     → more ++ slice_range gap next m.end ≡ text ++ front gap at m.line m.end
 front_stays text more gap next at m is plain few order kept =
     let blank : at < m.line → get_or gap (m.line - 1) 0 ≡ 10 = is.feed in

@@ -3,8 +3,8 @@ use Rattle.std.proofs.Common.{◌≡◌, refl, sym, ap, ◌∙◌, ℕ, zero, su
 use Rattle.std.proofs.lemmas.Bool.{false≢true, cases_eq, cases_lt}
 use Rattle.std.specs.List.{prefix_len}
 use Rattle.std.specs.Prelude.{slice_range}
-use Rattle.std.proofs.Math.Seq.{take-add}
-use Rattle.std.proofs.lemmas.List.{take-take, drop_more, drop-drop, drop-take, length-drop, length-take-le, get_or-take, get_or-drop}
+use Rattle.std.proofs.Math.Seq.{take-add, drop-append_seam}
+use Rattle.std.proofs.lemmas.List.{take-take, drop_more, drop-drop, drop-take, length-drop, length-take-le, length-append, get_or-take, get_or-drop}
 use Rattle.std.proofs.lemmas.List.Sums.{prefix_len_is, prefix_len_passes, prefix_len_stops}
 use Rattle.um_syntax.specs.Gap.{is_space}
 use Rattle.um_syntax.specs.LineColumn.{is_line_feed}
@@ -22,14 +22,6 @@ use Rattle.um_tidy.proofs.Trimmed.{trimmed_all}
 pub spaces_join : (m n : ℕ) → spaces m ++ spaces n ≡ spaces (m + n)
 spaces_join zero n = let same : n ≡ zero + n = omega arith in ap spaces same
 spaces_join (suc m) n = let next : suc (m + n) ≡ suc m + n = omega arith in ap (λ xs. 32 ∷ xs) (spaces_join m n) ∙ ap spaces next
-
--- some spaces, and then the others
-pub spaces_left : (text more : List ℕ) (some left : ℕ) → some ≤ left → more ≡ text ++ spaces some → more ++ spaces (left - some) ≡ text ++ spaces left
-spaces_left text more some left fit added =
-    let all : some + (left - some) ≡ left = omega (arith, fit) in
-    ap (λ xs. xs ++ spaces (left - some)) added
-    ∙ append_assoc text (spaces some) (spaces (left - some))
-    ∙ ap (λ xs. text ++ xs) (spaces_join some (left - some) ∙ ap spaces all)
 
 -- ---- parts of a gap
 
@@ -352,23 +344,44 @@ module _ (last : Above → List ℕ → List ℕ) (gap : List ℕ) (feed : ℕ) 
 -- ---- from one comment to the next
 
 -- what stays from the start of a comment to its end
-pub record EndsHere (gap : List ℕ) (start feed len : ℕ) : Type 0 where
-  pub some : 0 < len
-  pub text : slice_range gap start (start + len) ≡ trimmed (slice_range gap start feed)
+pub record EndsHere (gap : List ℕ) (start feed end : ℕ) : Type 0 where
+  pub some : start < end
+  pub within : end ≤ feed
+  pub text : slice_range gap start end ≡ trimmed (slice_range gap start feed)
 
-pub ends_here : (gap : List ℕ) (start feed len : ℕ) → start < feed → feed < length gap → is_space (get_or gap start 0) ≡ false → start + len ≤ feed → take len (slice_range gap start feed) ≡ trimmed (slice_range gap start feed) → EndsHere gap start feed len
-ends_here gap start feed len order within other short kept =
+pub ends_here : (gap : List ℕ) (start feed end : ℕ) → start < feed → feed < length gap → is_space (get_or gap start 0) ≡ false → end ≤ length (take feed gap) → take end (take feed gap) ≡ trimmed (take feed gap) → EndsHere gap start feed end
+ends_here gap start feed end order within other short kept =
     let size : feed - start ≡ suc (feed - start - 1) = omega (arith, order) in
-    let place : start + len - start ≡ len = omega arith in
+    let whole : start + (feed - start) ≡ feed = omega (arith, order) in
     let others = take (feed - start - 1) (drop (start + 1) gap) in
     let part : slice_range gap start feed ≡ get_or gap start 0 ∷ others = ap (λ k. take k (drop start gap)) size ∙ ap (take (suc (feed - start - 1))) (drop_more gap start 0 (omega (arith, order, within))) in
     let text : trimmed (slice_range gap start feed) ≡ get_or gap start 0 ∷ trimmed others = ap trimmed part ∙ kept_other (get_or gap start 0) (trimmed others) other in
+    let long : length (take feed gap) ≡ feed = length-take-le feed gap (omega (arith, within)) in
+    let before : length (take start gap) ≡ start = length-take-le start gap (omega (arith, order, within)) in
+    let parts : take feed gap ≡ take start gap ++ slice_range gap start feed = ap (λ k. take k gap) (sym whole) ∙ take-add start (feed - start) gap in
+    let cut : take end gap ≡ take start gap ++ trimmed (slice_range gap start feed) =
+    sym (take-take end feed gap (omega (arith, short, long)))
+    ∙ kept
+    ∙ ap trimmed parts
+    ∙ trimmed_before (take start gap) (slice_range gap start feed) (trimmed others) (get_or gap start 0) text
+    ∙ ap (λ ys. take start gap ++ ys) (sym text) in
+    let sizes : end ≡ start + length (trimmed (slice_range gap start feed)) =
+    sym (length-take-le end gap (omega (arith, short, long, within)))
+    ∙ ap length cut
+    ∙ length-append (take start gap) (trimmed (slice_range gap start feed))
+    ∙ ap (λ k. k + length (trimmed (slice_range gap start feed))) before in
+    let any = ap length text in
+    let some : start < end = omega (arith, sizes, any) in
+    let place : start + (end - start) ≡ end = omega (arith, some) in
     record {
-      some = elim (cases_eq len 0) [
-        | inl none ↦ let sizes = ap length (ap (λ k. take k (slice_range gap start feed)) (sym none) ∙ kept ∙ text) in absurd (omega (arith, sizes))
-        | inr some ↦ omega (arith, some)
-      ];
-      text = ap (λ k. take k (drop start gap)) place ∙ sym (take-take len (feed - start) (drop start gap) (omega (arith, short))) ∙ kept;
+      some = some;
+      within = omega (arith, short, long);
+      text =
+          sym (drop-take start (end - start) gap)
+          ∙ ap (λ k. drop start (take k gap)) place
+          ∙ ap (drop start) cut
+          ∙ ap (λ k. drop k (take start gap ++ trimmed (slice_range gap start feed))) (sym before)
+          ∙ drop-append_seam (take start gap) (trimmed (slice_range gap start feed));
     }
 
 -- a comment that stays, after what stays before it

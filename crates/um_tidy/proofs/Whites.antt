@@ -8,7 +8,7 @@ use lib.Lanes.{chunk, zip2, top}
 use Rattle.std.proofs.lemmas.Bool.{false≢true, cases_eq, cases_lt, not-true, not-false}
 use Rattle.std.proofs.lemmas.List.{length-map, get_or-map, length-drop, drop-drop, get_or-drop}
 use Rattle.std.proofs.lemmas.Nat.{leading_top}
-use Rattle.std.proofs.lemmas.Simd.{map-map, zip2_splat, zip2_of_maps, length-chunk, get_or-chunk, mask_l-lt, mask_l-mod, first_set_mask_l, none_from_empty_mask, run_in_chunk_le, run_in_chunk_fails, run_in_chunk_stops}
+use Rattle.std.proofs.lemmas.Simd.{map-map, zip2_splat, zip2_of_maps, length-chunk, get_or-chunk, mask_l-lt, mask_l-mod, first_set_mask_l, run_in_chunk_le, run_in_chunk_fails, run_in_chunk_stops}
 use Rattle.um_syntax.specs.Gap.{is_space}
 use Rattle.um_tidy.specs.Gaps.{trimmed}
 use Rattle.um_tidy.specs.Placed.{others_mask}
@@ -90,8 +90,19 @@ spaces_end_near bytes at n room short near =
 
 -- ---- bytes that are all the same
 
-pub all_same : (bytes : List ℕ) (at c : ℕ) → at + 16 ≤ length bytes → mask_l (map (λ x. not (eqb x c)) (chunk at 16 bytes)) ≡ 0 → (k : ℕ) → at ≤ k → k < at + 16 → get_or bytes k 0 ≡ c
-all_same bytes at c room empty k low high = eqb-true (get_or bytes k 0) c (not-false _ (none_from_empty_mask (λ x. not (eqb x c)) bytes at 16 0 room empty k low high))
+pub record IsNearSame (bytes : List ℕ) (at c n : ℕ) : Type 0 where
+  pub within : n ≤ 16
+  pub same : (k : ℕ) → k < n → get_or bytes (at + k) 0 ≡ c
+
+pub near_same_is : (bytes : List ℕ) (at c n mask : ℕ) → at + 16 ≤ length bytes → mask ≡ mask_l (map (λ x. not (eqb x c)) (chunk at 16 bytes)) → n ≡ cond (eqb mask 0) 16 (trailing_zeros w64 mask) → IsNearSame bytes at c n
+near_same_is bytes at c n mask room others is =
+    let differs : ℕ → Bool = λ x. not (eqb x c) in
+    let long = length-chunk at 16 bytes room in
+    let counted : n ≡ prefix_len (λ x. not (differs x)) (chunk at 16 bytes) = is ∙ ap (λ m. cond (eqb m 0) 16 (trailing_zeros w64 m)) others ∙ first_set_mask_l differs (chunk at 16 bytes) 16 long (omega arith) in
+    record {
+      within = run_in_chunk_le differs bytes at 16 n 0 room counted;
+      same = λ k less. eqb-true (get_or bytes (at + k) 0) c (not-false _ (run_in_chunk_fails differs bytes at 16 n 0 room counted (at + k) (omega arith) (omega (arith, less))));
+    }
 
 -- ---- the highest bit of a mask
 

@@ -1,5 +1,6 @@
 -- The comments below a line, by their places in a gap: what stays as it is is copied together. This mirrors the code.
-use Rattle.std.specs.Prelude.{◌≡◌, ℕ, zero, suc, ◌+◌, ◌-◌, ◌*◌, ◌<◌, ◌≤◌, ◌==◌, nat_lt, Bool, true, false, not, ◌&&◌, ◌||◌, List, ◌++◌, length, map, take, drop, get_or, slice_range}
+use Rattle.std.specs.Prelude.{◌≡◌, ℕ, zero, suc, ◌+◌, ◌-◌, ◌*◌, ◌<◌, ◌≤◌, ◌==◌, nat_lt}
+use Rattle.std.specs.Prelude.{Bool, true, false, not, ◌&&◌, ◌||◌, List, ◌++◌, length, map, take, drop, get_or, slice_range}
 use Rattle.std.specs.List.{prefix_len}
 use Rattle.std.specs.Simd.Lanes.{mask_l}
 use Rattle.um_syntax.specs.Gap.{is_space}
@@ -47,8 +48,8 @@ pub record IsMargin (gap : List ℕ) (from : ℕ) (m : Margin) : Type 0 where
   pub feed : from < m.line → get_or gap (m.line - 1) 0 ≡ 10
   pub line : (k : ℕ) → m.line ≤ k → k < m.end → in_line (get_or gap k 0) ≡ true
   pub width : m.width ≡ width_from 0 (slice_range gap m.line m.end)
-  pub plain : m.plain ≡ true → slice_range gap m.line m.end ≡ spaces (m.end - m.line)
+  pub plain : m.others ≡ 0 → slice_range gap m.line m.end ≡ spaces (m.end - m.line)
 
--- its columns can be counted
+-- its columns can be counted, and its bytes
 abbrev pub IsNarrow : List ℕ → Margin → Type 0
-IsNarrow gap m = (m.width ≤ 4 * m.end) × (m.end ≤ length gap)
+IsNarrow gap m = (m.width ≤ 4 * m.end) × (m.others ≤ m.end) × (m.end ≤ length gap)

@@ -1,5 +1,5 @@
 // The comments below a line. What stays as it is of them is copied together.
-ghost use Rattle.std.specs.Prelude.{◌≡◌, ◌≤◌, ◌<◌, ◌+◌, ◌++◌, ◌∷◌, [], List, ℕ, true, false, IfOk, length, take, drop};
+ghost use Rattle.std.specs.Prelude.{◌≡◌, ◌≤◌, ◌<◌, ◌+◌, ◌++◌, ◌∷◌, [], List, ℕ, false, IfOk, length, take, drop};
 ghost use Rattle.std.specs.Prelude.{◌-◌, get_or, slice_range};
 ghost use Rattle.std.specs.List.{prefix_len};
 ghost use Rattle.um_syntax.specs.Gap.{is_space};
@@ -9,11 +9,12 @@ ghost use Rattle.um_tidy.specs.Gaps.{in_line, lines, each_line};
 ghost use Rattle.um_tidy.specs.Placed.{below_blank, front, lines_from, IsMargin};
 
 use crate::edges::first_edge;
-use crate::gap::{Above, push_blank_line, push_spaces};
+use crate::gap::{Above, push_blank_line};
 use crate::margin::{Margin, margin_at};
 use crate::white::trimmed_len;
 use memchr::memrchr;
 use std::alloc::AllocError;
+use um_draft::Draft;
 
 /// White space after a comment, by its places in a gap.
 #[derive(Clone, Copy)]
@@ -27,11 +28,7 @@ struct Edge {
 }
 
 /// Adds the comments of a gap, if it follows a line, and tells how many bytes their lines take.
-pub(crate) fn push_comments(
-    text: &mut Vec<u8>,
-    above: Above,
-    gap: &[u8],
-) -> Result<usize, AllocError>
+pub(crate) fn push_comments(text: &mut Draft, above: Above, gap: &[u8]) -> Result<usize, AllocError>
     requires { length gap.now ≤ 1048576 }
     ensures within { IfOk result (λ len. len ≤ length gap.now) }
     ensures added { IfOk result (λ len. (last : Above → List ℕ → List ℕ)
@@ -45,7 +42,7 @@ pub(crate) fn push_comments(
 }
 
 /// The same below a line.
-fn push_comments_below(text: &mut Vec<u8>, gap: &[u8]) -> Result<usize, AllocError>
+fn push_comments_below(text: &mut Draft, gap: &[u8]) -> Result<usize, AllocError>
     requires { length gap.now ≤ 1048576 }
     ensures within { IfOk result (λ len. len ≤ length gap.now) }
     ensures added { IfOk result (λ len. (last : Above → List ℕ → List ℕ)
@@ -64,7 +61,7 @@ fn push_comments_below(text: &mut Vec<u8>, gap: &[u8]) -> Result<usize, AllocErr
 
 /// The same from the start of a comment on. The bytes from `from` to it stay as they are, and aren't added yet.
 fn push_comments_from(
-    text: &mut Vec<u8>,
+    text: &mut Draft,
     gap: &[u8],
     from: usize,
     start: usize,
@@ -88,11 +85,12 @@ fn push_comments_from(
         edge = edge_after(gap, edge.margin.end, last);
     }
     let from = push_end(text, gap, from, edge.end, edge.feed)?;
-    text.extend_from_slice(&gap[from..edge.feed + 1])?;
+    text.push(gap, from, edge.feed + 1)?;
     Ok(edge.feed + 1)
 }
 
 /// The first edge after the start of a comment. What stands before it stays as it is.
+#[inline(always)]
 fn edge_after(gap: &[u8], start: usize, last: usize) -> Edge
     requires short { length gap.now ≤ 1048576 }
     requires order { start < last }
@@ -108,14 +106,15 @@ fn edge_after(gap: &[u8], start: usize, last: usize) -> Edge
 {
     let feed = first_edge(gap, start + 1, last);
     Edge {
-        end: start + trimmed_len(&gap[start..feed]),
+        end: trimmed_len(&gap[..feed]),
         feed,
         margin: margin_at(gap, feed + 1),
     }
 }
 
 /// Adds a comment with the white space after it, up to the place that is told. From there to the next one all stays.
-fn push_edge(text: &mut Vec<u8>, gap: &[u8], from: usize, edge: Edge) -> Result<usize, AllocError>
+#[inline(always)]
+fn push_edge(text: &mut Draft, gap: &[u8], from: usize, edge: Edge) -> Result<usize, AllocError>
     requires from { from ≤ edge.end }
     requires order { (edge.end ≤ edge.feed) × (edge.feed < length gap.now) }
     requires feed { get_or gap.now edge.feed 0 ≡ 10 }
@@ -130,16 +129,16 @@ fn push_edge(text: &mut Vec<u8>, gap: &[u8], from: usize, edge: Edge) -> Result<
 {
     let at = edge.feed + 1;
     let margin = edge.margin;
-    if margin.plain && margin.line - at < 2 {
+    if margin.others == 0 && margin.line - at < 2 {
         return push_end(text, gap, from, edge.end, edge.feed);
     }
-    text.extend_from_slice(&gap[from..edge.end])?;
-    text.extend_from_slice(b"\n")?;
+    text.push_line(gap, from, edge.end)?;
     push_front(text, at, margin)
 }
 
 /// Adds the blank lines and the margin before a comment, up to the place that is told. From there on all stays.
-fn push_front(text: &mut Vec<u8>, at: usize, margin: Margin) -> Result<usize, AllocError>
+#[inline(always)]
+fn push_front(text: &mut Draft, at: usize, margin: Margin) -> Result<usize, AllocError>
     requires from { at ≤ margin.line }
     requires order { margin.line ≤ margin.end }
     ensures within { IfOk result (λ next. next ≤ margin.end) }
@@ -147,11 +146,11 @@ fn push_front(text: &mut Vec<u8>, at: usize, margin: Margin) -> Result<usize, Al
         → text.new.items ++ slice_range gap next margin.end ≡ text.old.items ++ front gap at margin.line margin.end) }
 {
     let blank = margin.line - at;
-    if margin.plain && blank > 0 {
+    if margin.others == 0 && blank > 0 {
         return Ok(margin.line - 1);
     }
     push_blank_line(text, below_blank(blank))?;
-    push_spaces(text, margin.width)?;
+    text.push_spaces(margin.width)?;
     Ok(margin.end)
 }
 
@@ -167,8 +166,9 @@ fn below_blank(len: usize) -> Above
 
 /// Adds the end of a comment without the white space after it, if there is any.
 #[tactic(auto, using(crate::proofs::PlacedComments::end_stays, crate::proofs::PlacedComments::end_added))]
+#[inline(always)]
 fn push_end(
-    text: &mut Vec<u8>,
+    text: &mut Draft,
     gap: &[u8],
     from: usize,
     end: usize,
@@ -185,6 +185,6 @@ fn push_end(
     if end == feed {
         return Ok(from);
     }
-    text.extend_from_slice(&gap[from..end])?;
+    text.push(gap, from, end)?;
     Ok(feed)
 }

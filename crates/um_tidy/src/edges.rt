@@ -1,11 +1,12 @@
 // Where white space stands beside a line feed. Comments stay as they are up to there. 16 places are seen at once.
-ghost use Rattle.std.specs.Prelude.{◌≡◌, ◌≤◌, ◌<◌, ◌+◌, ℕ, true, false, length, get_or};
+ghost use Rattle.std.specs.Prelude.{◌≡◌, ◌≤◌, ◌<◌, ◌+◌, true, length, get_or};
 ghost use Rattle.um_tidy.specs.Placed.{is_edge, NoEdges};
 
 use crate::feed::first_set;
 use std::simd::prelude::*;
 
 /// The first edge from a place on, or the last line feed.
+#[inline(always)]
 pub(crate) fn first_edge(gap: &[u8], from: usize, last: usize) -> usize
     requires some { 0 < from }
     requires order { from ≤ last }

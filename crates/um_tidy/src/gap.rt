@@ -1,10 +1,10 @@
 // What becomes of the white space and the comments between tokens.
-ghost use Rattle.std.specs.Prelude.{◌≡◌, ◌≤◌, ◌<◌, ◌+◌, ◌++◌, ◌∷◌, [], List, ℕ, cond, length, take, drop};
+ghost use Rattle.std.specs.Prelude.{◌≡◌, ◌≤◌, ◌<◌, ◌+◌, ◌++◌, ◌∷◌, [], List, ℕ, cond, length, drop};
 ghost use Rattle.std.specs.Prelude.{OnOk, IfOk};
 ghost use Rattle.std.specs.List.{prefix_len};
 ghost use Rattle.um_syntax.specs.Gap.{is_space};
 ghost use Rattle.um_tidy.specs.declared.gap.Above.{Above};
-ghost use Rattle.um_tidy.specs.Gaps.{in_line, lines, trimmed, comment, width_from, indent, spaces, blank_line};
+ghost use Rattle.um_tidy.specs.Gaps.{in_line, lines, comment, width_from, indent, blank_line};
 ghost use Rattle.um_tidy.specs.Gaps.{past_blank, own_line, below, each_line, indentation, before_token, comment_after};
 ghost use Rattle.um_tidy.specs.Gaps.{line_end, first_gap, inner_gap, last_gap, only_gap};
 
@@ -13,6 +13,7 @@ use crate::feed::line_feed;
 use crate::white::{space_end, trimmed_len};
 use memchr::memrchr;
 use std::alloc::AllocError;
+use um_draft::Draft;
 
 /// What stands above a line.
 #[derive(Clone, Copy)]
@@ -37,7 +38,7 @@ struct Line<'a> {
 }
 
 /// Adds what stands before the first token.
-pub fn push_first_gap(text: &mut Vec<u8>, gap: &[u8], begins: bool) -> Result<(), AllocError>
+pub fn push_first_gap(text: &mut Draft, gap: &[u8], begins: bool) -> Result<(), AllocError>
     requires { length gap.now ≤ 1048576 }
     ensures { OnOk result (text.new.items ≡ text.old.items ++ first_gap begins gap.now) }
 {
@@ -46,7 +47,7 @@ pub fn push_first_gap(text: &mut Vec<u8>, gap: &[u8], begins: bool) -> Result<()
 
 /// Adds what stands between two tokens: a space if they are spaced, or the lines that end and begin there.
 pub fn push_inner_gap(
-    text: &mut Vec<u8>,
+    text: &mut Draft,
     gap: &[u8],
     spaced: bool,
     begins: bool,
@@ -63,7 +64,7 @@ pub fn push_inner_gap(
 }
 
 /// Adds what stands after the last token.
-pub fn push_last_gap(text: &mut Vec<u8>, gap: &[u8]) -> Result<(), AllocError>
+pub fn push_last_gap(text: &mut Draft, gap: &[u8]) -> Result<(), AllocError>
     requires { length gap.now ≤ 1048576 }
     ensures { OnOk result (text.new.items ≡ text.old.items ++ last_gap gap.now) }
 {
@@ -76,7 +77,7 @@ pub fn push_last_gap(text: &mut Vec<u8>, gap: &[u8]) -> Result<(), AllocError>
 }
 
 /// Adds what stands in a text without tokens.
-pub fn push_only_gap(text: &mut Vec<u8>, gap: &[u8]) -> Result<(), AllocError>
+pub fn push_only_gap(text: &mut Draft, gap: &[u8]) -> Result<(), AllocError>
     requires { length gap.now ≤ 1048576 }
     ensures { OnOk result (text.new.items ≡ text.old.items ++ only_gap gap.now) }
 {
@@ -84,12 +85,7 @@ pub fn push_only_gap(text: &mut Vec<u8>, gap: &[u8]) -> Result<(), AllocError>
 }
 
 /// Adds lines, the last of which holds the next token.
-fn push_to_token(
-    text: &mut Vec<u8>,
-    above: Above,
-    gap: &[u8],
-    begins: bool,
-) -> Result<(), AllocError>
+fn push_to_token(text: &mut Draft, above: Above, gap: &[u8], begins: bool) -> Result<(), AllocError>
     requires { length gap.now ≤ 1048576 }
     ensures { OnOk result (text.new.items
         ≡ text.old.items ++ each_line (before_token begins) above (lines gap.now)) }
@@ -100,7 +96,7 @@ fn push_to_token(
 }
 
 /// Adds lines, none of which holds a token.
-fn push_to_end(text: &mut Vec<u8>, above: Above, gap: &[u8]) -> Result<(), AllocError>
+fn push_to_end(text: &mut Draft, above: Above, gap: &[u8]) -> Result<(), AllocError>
     requires { length gap.now ≤ 1048576 }
     ensures { OnOk result (text.new.items ≡ text.old.items ++ each_line own_line above (lines gap.now)) }
 {
@@ -110,7 +106,7 @@ fn push_to_end(text: &mut Vec<u8>, above: Above, gap: &[u8]) -> Result<(), Alloc
 }
 
 /// Adds all lines but the last, and tells that one. What stays as it is of comments is copied together.
-fn push_lines<'a>(text: &mut Vec<u8>, above: Above, gap: &'a [u8]) -> Result<Line<'a>, AllocError>
+fn push_lines<'a>(text: &mut Draft, above: Above, gap: &'a [u8]) -> Result<Line<'a>, AllocError>
     requires { length gap.now ≤ 1048576 }
     ensures size { IfOk result (λ l. length l.rest.now ≤ length gap.now) }
     ensures within { IfOk result (λ l. l.margin ≤ length l.rest.now) }
@@ -156,7 +152,7 @@ fn past_blank_lines(above: Above, gap: &[u8]) -> Line<'_>
 
 /// Adds a line without a token, and tells what stands above the next line.
 fn push_own_line(
-    text: &mut Vec<u8>,
+    text: &mut Draft,
     above: Above,
     line: &[u8],
     margin: usize,
@@ -172,53 +168,53 @@ fn push_own_line(
         return Ok(past_blank(above));
     }
     push_blank_line(text, above)?;
-    push_spaces(text, indent(line, margin))?;
-    text.extend_from_slice(comment)?;
-    text.push(b'\n')?;
+    text.push_spaces(indent(line, margin))?;
+    text.push_all(comment)?;
+    text.push_byte(b'\n')?;
     Ok(Above::Line)
 }
 
 /// Adds the rest of a token's line.
-fn push_line_end(text: &mut Vec<u8>, line: &[u8]) -> Result<(), AllocError>
+fn push_line_end(text: &mut Draft, line: &[u8]) -> Result<(), AllocError>
     ensures { OnOk result (text.new.items ≡ text.old.items ++ line_end line.now) }
 {
     let comment = comment_of(line, margin_len(line));
     push_comment_after(text, comment)?;
-    text.extend_from_slice(b"\n")
+    text.push_byte(b'\n')
 }
 
 /// Adds a comment after a token, if there is one.
-fn push_comment_after(text: &mut Vec<u8>, comment: &[u8]) -> Result<(), AllocError>
+fn push_comment_after(text: &mut Draft, comment: &[u8]) -> Result<(), AllocError>
     ensures { OnOk result (text.new.items ≡ text.old.items ++ comment_after comment.now) }
 {
     if comment.is_empty() {
         return Ok(());
     }
-    text.push(b' ')?;
-    text.extend_from_slice(comment)
+    text.push_byte(b' ')?;
+    text.push_all(comment)
 }
 
-pub(crate) fn push_blank_line(text: &mut Vec<u8>, above: Above) -> Result<(), AllocError>
+pub(crate) fn push_blank_line(text: &mut Draft, above: Above) -> Result<(), AllocError>
     ensures { OnOk result (text.new.items ≡ text.old.items ++ blank_line above) }
 {
     match above {
-        Above::Blank => text.extend_from_slice(b"\n"),
+        Above::Blank => text.push_byte(b'\n'),
         _ => Ok(()),
     }
 }
 
-fn push_space(text: &mut Vec<u8>, spaced: bool) -> Result<(), AllocError>
+fn push_space(text: &mut Draft, spaced: bool) -> Result<(), AllocError>
     ensures { OnOk result (text.new.items ≡ text.old.items ++ cond spaced (32 ∷ []) []) }
 {
     match spaced {
-        true => text.extend_from_slice(b" "),
+        true => text.push_byte(b' '),
         false => Ok(()),
     }
 }
 
 /// Adds the indentation of a line with a token.
 fn push_indentation(
-    text: &mut Vec<u8>,
+    text: &mut Draft,
     begins: bool,
     line: &[u8],
     margin: usize,
@@ -231,38 +227,7 @@ fn push_indentation(
     if begins {
         return Ok(());
     }
-    push_spaces(text, indent(line, margin).max(2))
-}
-
-pub(crate) fn push_spaces(text: &mut Vec<u8>, n: usize) -> Result<(), AllocError>
-    ensures { OnOk result (text.new.items ≡ text.old.items ++ spaces n) }
-{
-    let mut left = n;
-    while left >= 16 {
-        text.extend_from_slice(b"                ")?;
-        left -= 16;
-    }
-    push_some_spaces(text, left)
-}
-
-fn push_some_spaces(text: &mut Vec<u8>, n: usize) -> Result<(), AllocError>
-    ensures { OnOk result (text.new.items ≡ text.old.items ++ spaces n) }
-{
-    let mut left = n;
-    while left >= 4 {
-        text.extend_from_slice(b"    ")?;
-        left -= 4;
-    }
-    push_few_spaces(text, left)
-}
-
-fn push_few_spaces(text: &mut Vec<u8>, n: usize) -> Result<(), AllocError>
-    ensures { OnOk result (text.new.items ≡ text.old.items ++ spaces n) }
-{
-    for _ in 0..n {
-        text.push(b' ')?;
-    }
-    Ok(())
+    text.push_spaces(indent(line, margin).max(2))
 }
 
 fn past_blank(above: Above) -> Above

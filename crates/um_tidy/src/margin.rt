@@ -15,11 +15,12 @@ pub(crate) struct Margin {
     pub end: usize,
     /// The columns that it takes in that line.
     pub width: usize,
-    /// Whether it is spaces alone in that line.
-    pub plain: bool,
+    /// How many of its bytes in that line are tabs or CR.
+    pub others: usize,
 }
 
-/// The white space at a place. It is mostly short, so eight bytes of it are taken one by one.
+/// The white space at a place.
+#[inline(always)]
 pub(crate) fn margin_at(gap: &[u8], from: usize) -> Margin
     requires short { length gap.now ≤ 1048576 }
     requires within { from ≤ length gap.now }
@@ -30,26 +31,9 @@ pub(crate) fn margin_at(gap: &[u8], from: usize) -> Margin
         line: from,
         end: from,
         width: 0,
-        plain: true,
+        others: 0,
     };
-    for _ in 0..8 {
-        if !has_space(gap, margin.end) {
-            return margin;
-        }
-        margin = past_run(gap, margin, 1);
-    }
-    far_margin(gap, margin)
-}
-
-/// The same, 16 bytes at once where they are alike.
-fn far_margin(gap: &[u8], begun: Margin) -> Margin
-    requires short { length gap.now ≤ 1048576 }
-    requires narrow { IsNarrow gap.now begun }
-    ensures margin { (from : ℕ) → IsMargin gap.now from begun → IsMargin gap.now from result }
-    ensures end { prefix_len is_space (drop result.end gap.now) ≡ 0 }
-{
-    let mut margin = begun;
-    'far: while has_space(gap, margin.end) {
+    'runs: while has_space(gap, margin.end) {
         let more = run_len(gap, margin.end + 1, gap[margin.end]);
         margin = past_run(gap, margin, more + 1);
     }
@@ -57,6 +41,7 @@ fn far_margin(gap: &[u8], begun: Margin) -> Margin
 }
 
 /// Whether white space stands at a place.
+#[inline(always)]
 fn has_space(gap: &[u8], at: usize) -> bool
     requires { at ≤ length gap.now }
     ensures within { result ≡ true → at < length gap.now }
@@ -86,20 +71,26 @@ fn past_run(gap: &[u8], margin: Margin, n: usize) -> Margin
             line: end,
             end,
             width: 0,
-            plain: true,
+            others: 0,
         }
     } else if byte == b'\t' {
         Margin {
             end,
             width: margin.width / 4 * 4 + 4 * n,
-            plain: false,
+            others: margin.others + n,
+            ..margin
+        }
+    } else if byte == b'\r' {
+        Margin {
+            end,
+            width: margin.width + n,
+            others: margin.others + n,
             ..margin
         }
     } else {
         Margin {
             end,
             width: margin.width + n,
-            plain: margin.plain && byte == b' ',
             ..margin
         }
     }

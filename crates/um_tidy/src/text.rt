@@ -12,6 +12,7 @@ use crate::gap::{push_first_gap, push_inner_gap, push_last_gap, push_only_gap};
 use crate::spacing::is_spaced;
 use crate::stand::{Stand, stand_of, start};
 use std::alloc::{AllocError, Global};
+use um_draft::Draft;
 use um_syntax::{NoMemory, Token};
 
 /// The text laid out anew: its tokens as they are spelled, its comments and its line breaks stay, and the white space
@@ -50,21 +51,21 @@ fn tidied_from(
     requires in_order { AreInOrder at tokens.now (length bytes.now) }
     ensures { IfOk result (λ answer. answer.items ≡ tidied_from at bytes.now tokens.now) }
 {
-    let mut text = Vec::new(alloc);
+    let mut text = Draft::new(alloc);
     let Some((first, rest)) = tokens.split_first() else {
         push_only_gap(&mut text, &bytes[at..])?;
-        return Ok(text);
+        return Ok(text.into_bytes());
     };
     let stand = stand_of(start(), first);
     push_first_gap(&mut text, &bytes[at..first.start as usize], stand.begins)?;
     push_spelling(&mut text, bytes, first)?;
     push_after(&mut text, bytes, stand, first, rest)?;
-    Ok(text)
+    Ok(text.into_bytes())
 }
 
 /// Adds what follows a token that stands so.
 fn push_after(
-    text: &mut Vec<u8>,
+    text: &mut Draft,
     bytes: &[u8],
     stand: Stand,
     token: &Token,
@@ -87,7 +88,7 @@ fn push_after(
 
 /// Adds a token with what stands between it and the one before it, and tells how it stands.
 fn push_token(
-    text: &mut Vec<u8>,
+    text: &mut Draft,
     bytes: &[u8],
     stand: Stand,
     last: &Token,
@@ -112,10 +113,10 @@ fn push_token(
 }
 
 /// Adds a token as it is spelled.
-fn push_spelling(text: &mut Vec<u8>, bytes: &[u8], token: &Token) -> Result<(), AllocError>
+fn push_spelling(text: &mut Draft, bytes: &[u8], token: &Token) -> Result<(), AllocError>
     requires start { token.now.start ≤ token.now.end }
     requires end { token.now.end ≤ length bytes.now }
     ensures { OnOk result (text.new.items ≡ text.old.items ++ spelling bytes.now token.now) }
 {
-    text.extend_from_slice(&bytes[token.start as usize..token.end as usize])
+    text.push(bytes, token.start as usize, token.end as usize)
 }

@@ -115,26 +115,28 @@ fn ends_in_space(bytes: &[u8], to: usize) -> bool
     is_space(bytes[to - 1])
 }
 
-/// How many bytes stand here that are all the same as one. At most 15 more of them follow.
-pub(crate) fn run_len(bytes: &[u8], from: usize, byte: u8) -> usize
-    requires { from ≤ length bytes.now }
-    ensures within { from + result ≤ length bytes.now }
-    ensures same { (k : ℕ) → k < result → get_or bytes.now (from + k) 0 ≡ byte }
+/// How many bytes stand at a place that are all the same as one: at most 16, and none if fewer than 16 bytes are left.
+#[inline(always)]
+pub(crate) fn run_len(bytes: &[u8], at: usize, byte: u8) -> usize
+    requires { at ≤ length bytes.now }
+    ensures within { at + result ≤ length bytes.now }
+    ensures same { (k : ℕ) → k < result → get_or bytes.now (at + k) 0 ≡ byte }
 {
-    let mut end = from;
-    while end + 16 <= bytes.len() && bytes[end] == byte && are_same(bytes, end, byte) {
-        end += 16;
+    if at + 16 > bytes.len() || bytes[at] != byte {
+        return 0;
     }
-    end - from
+    near_same(bytes, at, byte)
 }
 
-/// Whether the next 16 bytes are all the same as one.
-fn are_same(bytes: &[u8], at: usize, byte: u8) -> bool
+/// How many of the next 16 bytes are the same as one.
+#[inline(always)]
+fn near_same(bytes: &[u8], at: usize, byte: u8) -> usize
     requires { at + 16 ≤ length bytes.now }
-    ensures { result ≡ true → (k : ℕ) → at ≤ k → k < at + 16 → get_or bytes.now k 0 ≡ byte }
+    ensures within { result ≤ 16 }
+    ensures same { (k : ℕ) → k < result → get_or bytes.now (at + k) 0 ≡ byte }
 {
     let others = u8x16::from_slice(&bytes[at..]).simd_ne(u8x16::splat(byte));
-    others.to_bitmask() == 0
+    first_set(others.to_bitmask())
 }
 
 /// How many of the next 16 bytes are white space.

@@ -52,6 +52,6 @@ returns-clause-added c =
     let gap = c.args.gap.now in
     let kept = l.text.items ++ slice_range gap l.from l.edge.end in
     λ last.
-    ap (λ ys. ys ++ lines_from last gap (l.edge.feed + 1)) c.in_ok-extend_from_slice.ensures.items
+    ap (λ ys. ys ++ lines_from last gap (l.edge.feed + 1)) c.in_ok-push.ensures
     ∙ feed_goes_on kept (c.push_end.new.text.items ++ slice_range gap c.in_ok-from-2.from (l.edge.feed + 1)) (lines_from last gap (l.edge.feed + 1)) c.in_ok-from-2.ensures.added
     ∙ l.invariant.added last

@@ -14,9 +14,9 @@ returns-clause-added c =
     let m = edge.margin in
     let is = c.requires.margin in
     let kept = c.args.text.now.items ++ slice_range gap c.args.from edge.end in
-    let before : c.extend_from_slice-2.new.self.items ≡ kept ++ 10 ∷ [] = c.in_ok-extend_from_slice-2.ensures.items ∙ ap (λ xs. xs ++ 10 ∷ []) c.in_ok-extend_from_slice.ensures.items in
+    let before : c.push_line.new.self.items ≡ kept ++ 10 ∷ [] = c.in_ok-push_line.ensures in
     IfOk-weaker c.push_front.result
-    (λ next. (g : List ℕ) → IsMargin g (edge.feed + 1) m → c.push_front.new.text.items ++ slice_range g next m.end ≡ c.extend_from_slice-2.new.self.items ++ front g (edge.feed + 1) m.line m.end)
+    (λ next. (g : List ℕ) → IsMargin g (edge.feed + 1) m → c.push_front.new.text.items ++ slice_range g next m.end ≡ c.push_line.new.self.items ++ front g (edge.feed + 1) m.line m.end)
     (λ next. (last : Above → List ℕ → List ℕ) → (c.push_front.new.text.items ++ slice_range gap next m.end) ++ lines_from last gap m.end ≡ kept ++ 10 ∷ lines_from last gap (edge.feed + 1))
     (λ next added last.
     edge_laid kept (c.push_front.new.text.items ++ slice_range gap next m.end) (lines_from last gap m.end) (lines_from last gap (edge.feed + 1)) (front gap (edge.feed + 1) m.line m.end)
@@ -38,6 +38,6 @@ returns-then-margin-at-lt2-clause-added c =
     (λ next added last.
     let (within, laid) = added in
     edge_laid kept (text ++ slice_range gap next m.end) (lines_from last gap m.end) (lines_from last gap (edge.feed + 1)) (front gap (edge.feed + 1) m.line m.end)
-    (front_stays (kept ++ 10 ∷ []) text gap next (edge.feed + 1) m is c.if-margin.true c.if-margin-at-lt2.true (omega (arith, within)) laid)
+    (front_stays (kept ++ 10 ∷ []) text gap next (edge.feed + 1) m is c.if-margin-eq0.true c.if-margin-at-lt2.true (omega (arith, within)) laid)
     (front_is last gap (edge.feed + 1) m.line m.end is.order.0 is.order.1 c.requires.space c.requires.ended is.line is.feed))
     (both_ok c.push_end.result (λ next. next ≤ edge.feed) (λ next. text ++ slice_range gap next (edge.feed + 1) ≡ kept ++ 10 ∷ []) c.push_end.ensures.within c.push_end.ensures.added)
