@@ -65,6 +65,7 @@ class Program:
         self._schemes = schemes(answer.output.decode())
         self._functions = {name: Function(self, scheme) for name, scheme in self._schemes.items()}
         self._ratio: "Program | None" = None
+        self._convert = self.convert    # made once for all values
         # Python finds these as attributes; the others are items alone.
         self.__dict__.update({name: it for name, it in self._functions.items() if not hasattr(Program, name)
                               and name not in self.__dict__})
@@ -119,7 +120,7 @@ class Program:
         lines = self._handle.calls(self.budget, name, columns)
         if isinstance(lines, Answer):
             raise refused.of_call(lines, [], None)
-        convert = self.convert
+        convert = self._convert
         return [self._refused(name, number, columns, line) if line.startswith(REFUSAL)
                 else value_of(line, convert) for number, line in enumerate(lines, 1)]
 
@@ -200,7 +201,7 @@ class Function:
         Raises `umc.Refused` if the program refuses the call, and `umc.ValueRefused` for a value that is no argument.
         """
         program = self.program
-        return value_of(program.said(_line(self.name, arguments, unit, step)), program.convert)
+        return value_of(program.said(_line(self.name, arguments, unit, step)), program._convert)
 
     def printed(self, *arguments: Any, unit: Units = None, step: Step | None = None) -> str:
         """The value of a call as the program prints it, as 381r125<m>."""
