@@ -1,4 +1,4 @@
-"""The worst inputs that are known for the program, of each kind: what tools/hostile runs."""
+"""The worst inputs that are known for the program, of each kind, each with its bound: what tools/hostile runs."""
 import importlib.machinery
 import importlib.util
 import struct
@@ -8,9 +8,11 @@ from dataclasses import dataclass
 from pathlib import Path
 from types import ModuleType
 
+from hostile_bounds import (ANSWER, CALLS, CERTIFICATE, FULL, GIB, IMAGE, MEMORY, MIB, NODES, PAIRS, READINGS, STATED,
+                            TEXT, TWICE, VALUE, Bound, Most, Stated)
 from repository import ROOT
 
-TEXT, IMAGE = 1 << 20, 1 << 24
+TEXT_BYTES, IMAGE_BYTES = 1 << 20, 1 << 24
 MOST_FIELDS = 32
 TOKENS = ["(", ")", "[", "]", "{", "}", "<", ">", "[<", ">]", "->", "::", ":", ";", ",", "=", "|", "_", ".", "+", "-",
           "*", "/", "^", "&&", "||", "<=", "'a", "let", "rec", "in", "if", "then", "else", "match", "with", "type",
@@ -21,16 +23,28 @@ PLAIN = "[<Measure>] type {}\n"
 
 @dataclass(frozen=True)
 class Case:
-    """An input: its kind, what it is, the words of the command, and what makes its bytes.
+    """An input: its kind, what it is, the words of the command, what makes its bytes, and its bound.
 
-    `is_forced` says that a definition asks for so much work that no bound is promised.
+    `count` is of what the bound counts; without one it is the MiB of the input. If there are `limits`, the words are
+    those of a call, which is made within them by the command `um` or from Python (`by`), and must end at one of them
+    with the message `said`.
     """
 
     kind: str
     title: str
     words: list[str]
     make: Callable[[], bytes]
-    is_forced: bool = False
+    bound: Bound = TEXT
+    count: float | None = None
+    by: str = "umc"
+    limits: Stated | None = None
+    said: str = ""
+
+    def most(self, size: int) -> Most:
+        """What it may take, if it has so many bytes."""
+        if self.limits:
+            return self.limits.most()
+        return self.bound.most(size / MIB if self.count is None else self.count)
 
 
 def script(path: Path) -> ModuleType:
@@ -50,7 +64,7 @@ def script(path: Path) -> ModuleType:
 def filled(front: str, part: str, back: str = "") -> bytes:
     """As many bytes as a text may have, of one part again and again."""
     begun, again, ended = (it.encode("utf-8", "surrogatepass") for it in (front, part, back))
-    return begun + again * ((TEXT - len(begun) - len(ended)) // len(again)) + ended
+    return begun + again * ((TEXT_BYTES - len(begun) - len(ended)) // len(again)) + ended
 
 
 # ---- names
@@ -148,16 +162,98 @@ def doubling(levels: int) -> bytes:
     return f"let f (x0: num) =\n{lets}  x{levels}\n".encode()
 
 
-def powers(functions: int) -> bytes:
-    """Functions that each square the one before, so that the powers of their units double."""
-    lines = "".join(f"let f{k} (x: num<_>) = f{k - 1} x * f{k - 1} x\n" for k in range(1, functions))
-    return f"let f0 (x: num<_>) = x * x\n{lines}".encode()
+def doubled_text(levels: int) -> int:
+    """The bytes of the answer: two of the text before, brackets, a semicolon and a space, and at last a line feed."""
+    return 5 * 2 ** levels - 4 + 1
+
+
+METRE = "[<Measure>] type m\n"
+FIRST = "let first (l: num list) = match l with [] -> 0 | x :: r -> x\n"
+LOOP = "let rec f (n: num) : num = f n\n"
+DEEP = "let rec f (n: num) : num = 1 + f n\n"
+FIBONACCI = 4660046610375530309, 7540113804746346429    # the 91st and the 92nd: the longest run of divisions
+
+
+def products(count: int) -> str:
+    """Calls of so many products each, of numbers whose greatest common divisor is found last."""
+    items = "; ".join(["x * y"] * count)
+    body = f"let rec g (x: num) (y: num) : num = g x (first [{items}] * 0 + y)\n"
+    return f"{FIRST}{body}let f (n: num) = g {FIBONACCI[1]} 1r{FIBONACCI[0]}\n"
+
+
+def kept_lists(count: int) -> str:
+    """Calls that each make a list of so many items."""
+    return f"{FIRST}let rec f (n: num) : num = f (first [{'; '.join(['n'] * count)}])\n"
+
+
+def waiting_items(count: int) -> str:
+    """Calls in one another, each with so many values that wait."""
+    return f"{FIRST}let rec f (n: num) : num = first [{'; '.join(['n'] * count)}; f n]\n"
+
+
+def local_names(count: int) -> str:
+    """Calls in one another, each within so many `let`."""
+    return f"let rec f (n: num) : num = {''.join(f'let x{k} = n in ' for k in range(count))}(1 + f n)\n"
+
+
+def minuses(count: int) -> str:
+    """Calls in one another, each within so many signs."""
+    return f"let rec f (n: num) : num = {'- ' * count}(f n)\n"
+
+
+# What it is, its text, how many calls the budget allows, and how many nodes a call looks at on average. (Of two calls
+# one may be that of `first`, which looks at three.)
+RUNS = [
+    ("10,000,000 last calls", LOOP, 10_000_000, 2),
+    ("10,000,000 calls in one another", DEEP, 10_000_000, 4),
+    ("3,000 lists of 1,000 products", products(1000), 6000, 1506),
+    ("10,000 lists of 1,000 items", kept_lists(1000), 20_000, 503),
+    ("10,000 calls in one another, with 1,000 values that wait", waiting_items(1000), 10_000, 1004),
+    ("20,000 calls in one another, each within 380 let", local_names(380), 20_000, 764),
+    ("20,000 calls in one another, each within 190 signs", minuses(190), 20_000, 192),
+]
+WAYS = [(["run"], NODES), (["steps"], NODES), (["show", "2", "-"], NODES), (["eval"], NODES), (["trace"], TWICE)]
+
+
+def runs() -> Iterator[Case]:
+    """Whole budgets, and values that double."""
+    for title, text, budget, nodes in RUNS:
+        millions = budget * nodes / 1e6
+        for words, bound in WAYS:
+            yield Case("budget", f"{title}, {words[0]}", [*words, str(budget), "f", "1"],
+                       lambda t=text: t.encode(), bound, millions)
+        yield Case("budget", f"{title}, twin", ["twin", str(budget), "m=2", "f", "1"],
+                   lambda t=text: (METRE + t).encode(), TWICE, millions)
+    yield Case("budget", "10,000,000 calls in one another, calls", ["calls", "10000000"],
+               lambda: f"{DEEP}---\nf\t1\n".encode(), NODES, 40)
+    for levels in (16, 22):
+        yield Case("doubling", f"a list doubled {levels} times", ["run", BUDGET, "f", "1"],
+                   lambda n=levels: doubling(n), VALUE, doubled_text(levels) / MIB)
+    for command in ("run", "eval"):
+        yield Case("doubling", f"a list doubled {LEVELS} times, {command}", [command, BUDGET, "f", "1"],
+                   lambda: doubling(LEVELS), FULL, MEMORY / GIB)
 
 
 def many_calls() -> bytes:
     """As many calls as fit, of one that is long to look at."""
     front = b"let k = 1\n---\n"
-    return front + b"k\n" * ((IMAGE - len(front)) // 2)
+    return front + b"k\n" * ((IMAGE_BYTES - len(front)) // 2)
+
+
+LEVELS = 39     # the doubled list has 2,748,779,069,436 bytes then
+BUDGET = "10000000"
+
+
+def limited() -> Iterator[Case]:
+    """The doubled list within limits that a user states."""
+    for by in ("um", "python"):
+        for levels, limits, said in [
+            (LEVELS, Stated(time=2), "the run took more than 2 s (--limit-time)"),
+            (LEVELS, Stated(memory=500 * MIB), "the run held more than 500 MiB of memory (--limit-memory)"),
+            (18, Stated(output=MIB), "the answer is longer than 1 MiB (--limit-output)"),
+        ]:
+            yield Case("limits", f"a list doubled {levels} times", ["f", "1"], lambda n=levels: doubling(n), STATED,
+                       by=by, limits=limits, said=said)
 
 
 # ---- refusals
@@ -180,9 +276,14 @@ LONG = "k" * (1 << 19)
 def refused() -> Iterator[Case]:
     """Texts that take long to explain."""
     workloads = script(ROOT / "bench" / "workloads.py")
-    made: list[tuple[str, Callable[[], bytes]]] = [
+    read_again: list[tuple[str, Callable[[], bytes]]] = [
         ("1 MiB of numbers, and a bracket too many", lambda: filled("let k = [1", "; 1", ")")),
+        ("1 MiB of sums of names, and a bracket too many", lambda: filled("let k = [x", "+x;x", ")")),
         ("1 MiB of measures, and a bracket too many", lambda: filled("", "[<Measure>] type m\n", ")")),
+    ]
+    for title, make in read_again:
+        yield Case("refusals", title, ["explain"], make, READINGS)
+    made: list[tuple[str, Callable[[], bytes]]] = [
         ("a line of 1 MiB", lambda: filled("let k =", " ", "@")),
         ("1 MiB of tabs before the place", lambda: filled("", "\t", "@")),
         ("a name of 512 KiB that is nearly known", lambda: f"let {LONG} = 1\nlet j = {LONG[:-64]}\n".encode()),
@@ -194,45 +295,59 @@ def refused() -> Iterator[Case]:
         yield Case("refusals", title, ["explain"], make)
 
 
-LOOP = b"let rec loop (n: num) : num = loop n\nlet rec deep (n: num) : num = 1 + deep n\n"
-BUDGET = "10000000"
+# ---- all
+
+def long_unit(functions: int) -> bytes:
+    """So many functions of a unit whose name is as long as can be."""
+    lines = "".join(f"let f{k} = f{k - 1}\n" for k in range(1, functions))
+    long = "m" * ((TEXT_BYTES - len(lines) - 100) // 2)
+    return f"{PLAIN.format(long)}let f0 = 1<{long}>\n{lines}".encode()
 
 
-def cases() -> Iterator[Case]:
-    """All inputs."""
+def named() -> Iterator[Case]:
+    """Long names, and names that collide."""
     for count, bits in ((10_000, 11), (40_000, 13)):
         yield Case("names", f"{count:,} measures", ["types"], lambda n=count: measures(ordinary(n)))
         yield Case("collisions", f"{count:,} measures with colliding names", ["types"],
                    lambda n=count, b=bits: measures(colliding(n, b)))
     yield Case("names", "a name of 1 MiB", ["types"], lambda: filled("let ", "k", " = 1"))
-    yield Case("names", "a field's name of 16 MiB", ["exec", "9", "f"], lambda: fields(["k" * (IMAGE - 60)]))
-    yield Case("names", "100,000 fields", ["exec", "9", "f"], lambda: fields(ordinary(100_000)))
+    yield Case("names", "200 functions of a unit with a name of 500 KiB", ["types"], lambda: long_unit(200), ANSWER,
+               200 * (TEXT_BYTES / 2) / MIB)
+    yield Case("names", "a field's name of 16 MiB", ["exec", "9", "f"],
+               lambda: fields(["k" * (IMAGE_BYTES - 60)]), IMAGE)
+    yield Case("names", "100,000 fields", ["exec", "9", "f"], lambda: fields(ordinary(100_000)), IMAGE)
     yield Case("collisions", "100,000 fields with colliding names", ["exec", "9", "f"],
-               lambda: fields(colliding(100_000, 14)))
+               lambda: fields(colliding(100_000, 14)), IMAGE)
+
+
+def images() -> Iterator[Case]:
+    """Images with many jumps, joins and shapes."""
     for count in (25_000, 100_000):
-        yield Case("jumps", f"{count:,} pushes, each with a branch", ["exec", "9", "f"], lambda n=count: jumps(n))
+        yield Case("jumps", f"{count:,} pushes, each with a branch", ["exec", "9", "f"],
+                   lambda n=count: jumps(n), IMAGE)
         yield Case("joins", f"{count:,} pushes, {count // 2:,} joins", ["exec", "9", "f"],
-                   lambda n=count: joins(n, n // 2))
+                   lambda n=count: joins(n, n // 2), IMAGE)
     yield Case("joins", "two stacks of 10,000 values that meet at 10,000 addresses", ["exec", "9", "f"],
-               lambda: meetings(10_000, 10_000))
-    yield Case("joins", "10,000 pushes, 10,000 lists of them", ["exec", "9", "f"], lambda: lists(10_000, 10_000))
-    images = script(ROOT / "bench" / "images.py")
+               lambda: meetings(10_000, 10_000), IMAGE)
+    yield Case("joins", "10,000 pushes, 10,000 lists of them", ["exec", "9", "f"], lambda: lists(10_000, 10_000), IMAGE)
+    pairs = script(ROOT / "bench" / "images.py").pairs
     for count in (280, 1_120):
+        met = count ** 3 / 2e6
+        bound, counted = (PAIRS, met) if count < 500 else (FULL, MEMORY / GIB)
         yield Case("joins", f"{count:,} stacks of {count:,} values, of which each two meet", ["exec", "9", "f", "[1]"],
-                   lambda n=count: images.pairs(n), is_forced=True)
-    yield Case("shapes", "2 MiB of shapes 400 high", ["exec", "9", "f0000000"], lambda: shapes(1 << 21))
-    yield Case("shapes", "16 MiB of shapes 400 high", ["exec", "9", "f0000000"], lambda: shapes(IMAGE))
-    for levels in (16, 39):
-        yield Case("doubling", f"a list doubled {levels} times", ["run", BUDGET, "f", "1"],
-                   lambda n=levels: doubling(n))
-    for command in ("run", "eval"):
-        yield Case("budget", f"10,000,000 last calls, {command}", [command, BUDGET, "loop", "1"], lambda: LOOP)
-        yield Case("budget", f"10,000,000 calls in one another, {command}", [command, BUDGET, "deep", "1"],
-                   lambda: LOOP)
+                   lambda n=count: pairs(n), bound, counted)
+    yield Case("shapes", "2 MiB of shapes 400 high", ["exec", "9", "f0000000"], lambda: shapes(1 << 21), IMAGE)
+    yield Case("shapes", "16 MiB of shapes 400 high", ["exec", "9", "f0000000"], lambda: shapes(IMAGE_BYTES), IMAGE)
+
+
+def texts() -> Iterator[Case]:
+    """Equations, deep and wide texts, and 1 MiB of each token."""
     workloads = script(ROOT / "bench" / "workloads.py")
-    for command in ("types", "prove"):
-        yield Case("equations", f"a chain of 1,560 slots, {command}", [command], lambda: workloads.chain(390).encode())
-        yield Case("equations", f"powers that double, {command}", [command], lambda: powers(2000))
+    yield Case("equations", "a chain of 1,560 slots, types", ["types"], lambda: workloads.chain(390).encode())
+    yield Case("equations", "powers that double, types", ["types"], lambda: powers(2000))
+    yield Case("equations", "a chain of 1,560 slots, prove", ["prove"], lambda: workloads.chain(390).encode(),
+               CERTIFICATE, CHAIN / MIB)
+    yield Case("equations", "powers that double, prove", ["prove"], lambda: powers(2000))
     wide = script(ROOT / "tools" / "deep_and_wide")
     for title, text, words, _ in wide.WIDE:
         yield Case("wide", title, words, lambda t=text: t.encode())
@@ -240,5 +355,23 @@ def cases() -> Iterator[Case]:
         yield Case("deep", f"{title}, 400 high", ["types"], lambda t=text, n=levels: t(n).encode())
     for token in TOKENS:
         yield Case("tokens", f"1 MiB of {token!r}", ["types"], lambda t=token: filled("let k = ", f"{t} "))
-    yield Case("calls", "16 MiB of calls", ["calls", "1"], many_calls)
+
+
+CHAIN = 8_049_797   # the bytes of the certificates of the chain
+
+
+def powers(functions: int) -> bytes:
+    """Functions that each square the one before, so that the powers of their units double."""
+    lines = "".join(f"let f{k} (x: num<_>) = f{k - 1} x * f{k - 1} x\n" for k in range(1, functions))
+    return f"let f0 (x: num<_>) = x * x\n{lines}".encode()
+
+
+def cases() -> Iterator[Case]:
+    """All inputs."""
+    yield from named()
+    yield from images()
+    yield from runs()
+    yield from limited()
+    yield from texts()
+    yield Case("calls", "16 MiB of calls", ["calls", "1"], many_calls, CALLS)
     yield from refused()
