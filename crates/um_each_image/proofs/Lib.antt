@@ -1,0 +1,4 @@
+pub mod Decisions
+mod Names
+mod Heads
+mod Addresses

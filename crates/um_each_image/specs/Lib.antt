@@ -1,0 +1,2 @@
+-- What a reader must trust: that each image is verified or refused.
+pub mod Laws
