@@ -3,65 +3,102 @@
 
 use: bench/images.py straight PUSHES > image       then: umc exec 1 f < image
      bench/images.py crossing PUSHES JUMPS > image
+     bench/images.py pairs STACKS > image          then: umc exec 1 f '[1]' < image
 
-`straight` pushes so many truth values and returns: each state is moved to the next address, so verifying is linear
-in the bytes. `crossing` pushes PUSHES values and then jumps JUMPS times, each time to an address of its own far behind:
-there two states of PUSHES shapes meet and are joined place by place. These states are the definition's own, so time and
-memory grow by PUSHES times JUMPS, with some 2 and 12 bytes of the image for each.
+`straight` pushes so many truth values and returns. `crossing` pushes PUSHES values and then jumps JUMPS times, each time
+to an address of its own far behind, where two stacks meet that have all values in common. `pairs` makes so many stacks
+apart from one another, each of as many lists. Some of these are empty lists and some are lists of numbers. Then each two
+of the stacks meet at an address of their own. There they are joined place by place, so the work grows with the third
+power of STACKS, and the bytes with the second.
 """
 import argparse
-import os
+import inspect
 import struct
 import sys
+from collections.abc import Callable
+from pathlib import Path
 
-sys.path.insert(0, os.path.join(os.path.dirname(os.path.abspath(__file__)), "..", "tools"))
-from repository import quietly
+sys.path.insert(0, str(Path(__file__).resolve().parent.parent / "tools"))
+from repository import quietly  # noqa: E402
 
-PUSH_TRUE = b"\x01\x01"
-RETURN = b"\x15"
+PUSH_TRUE, RETURN = b"\x01\x01", b"\x15"
+LOAD_FIRST, EMPTY_LIST = b"\x02\0\0\0\0", b"\x0e\0\0\0\0"
+TRUTH_VALUE, LIST_OF_NUMBERS = b"\0", b"\2\1"
 
 
-def word(number):
+def word(number: int) -> bytes:
     return struct.pack(">I", number)
 
 
-def jump(address):
+def jump(address: int) -> bytes:
     return b"\x0c" + word(address)
 
 
-def jump_if_not(address):
-    return b"\x0d" + word(address)
+def branch(address: int) -> list[bytes]:
+    """The two instructions of a branch to an address."""
+    return [PUSH_TRUE, b"\x0d" + word(address)]
 
 
-def image(instructions):
-    """An image of one function f, which takes nothing and gives a truth value."""
-    head = b"UMI1" + word(0) + word(1) + word(1) + b"f" + word(0) + b"\x00"
-    return head + word(len(instructions)) + b"".join(instructions)
+def image(code: list[bytes], result: bytes = TRUTH_VALUE, *parameters: bytes) -> bytes:
+    """An image of one function f."""
+    head = b"UMI1" + word(0) + word(1) + word(1) + b"f" + word(len(parameters)) + b"".join(parameters) + result
+    return head + word(len(code)) + b"".join(code)
 
 
-def straight(pushes):
+def straight(pushes: int) -> bytes:
     return image([PUSH_TRUE] * pushes + [RETURN])
 
 
-def crossing(pushes, jumps):
+def crossing(pushes: int, jumps: int) -> bytes:
     meetings = pushes + 2 * jumps
     code = [PUSH_TRUE] * pushes
     for number in range(jumps):
-        code += [PUSH_TRUE, jump_if_not(meetings + number)]
+        code += branch(meetings + number)
     code += [jump(meetings + number + 1) for number in range(jumps)]
     return image(code + [RETURN])
 
 
-def main():
+def pairs(stacks: int) -> bytes:
+    forks, way = 2 * (stacks - 1), 3 * stacks - 1
+    meetings = forks + stacks * way
+    code = [step for number in range(1, stacks) for step in branch(forks + number * way)]
+    for number in range(stacks):
+        code += [LOAD_FIRST if is_full(number, place) else EMPTY_LIST for place in range(stacks)]
+        for other in range(stacks):
+            if other != number:
+                code += branch(meetings + pair(min(number, other), max(number, other)))
+        code.append(RETURN)
+    return image(code + [RETURN] * pair(0, stacks), LIST_OF_NUMBERS, LIST_OF_NUMBERS)
+
+
+def pair(low: int, high: int) -> int:
+    """The number of a pair, counted from 0 by its higher stack."""
+    return high * (high - 1) // 2 + low
+
+
+def is_full(stack: int, place: int) -> bool:
+    """Whether a stack has a list of numbers at a place; no rule is meant to be seen in it."""
+    return (stack * 2654435761 ^ place * 2246822519) % (1 << 32) * 3266489917 % (1 << 32) >> 31 == 1
+
+
+def count(text: str) -> int:
+    """A count of at least one."""
+    if not text.isdecimal() or int(text) < 1:
+        raise argparse.ArgumentTypeError(f"{text!r} isn't a count of at least one")
+    return int(text)
+
+
+def main() -> None:
+    """Carries out the words."""
     reader = argparse.ArgumentParser(description=__doc__, formatter_class=argparse.RawDescriptionHelpFormatter)
     shapes = reader.add_subparsers(dest="shape", required=True)
-    shapes.add_parser("straight").add_argument("pushes", metavar="PUSHES", type=int)
-    meeting = shapes.add_parser("crossing")
-    meeting.add_argument("pushes", metavar="PUSHES", type=int)
-    meeting.add_argument("jumps", metavar="JUMPS", type=int)
-    asked = reader.parse_args()
-    made = straight(asked.pushes) if asked.shape == "straight" else crossing(asked.pushes, asked.jumps)
-    sys.stdout.buffer.write(made)
+    makers: dict[str, Callable[..., bytes]] = {"straight": straight, "crossing": crossing, "pairs": pairs}
+    for name, make in makers.items():
+        shape = shapes.add_parser(name)
+        for size in inspect.signature(make).parameters:
+            shape.add_argument(size, metavar=size.upper(), type=count)
+    asked = vars(reader.parse_args())
+    sys.stdout.buffer.write(makers[asked.pop("shape")](**asked))
 
 
 if __name__ == "__main__":

@@ -223,6 +223,22 @@ int umc_call(const umc_program *program, unsigned long budget, const char *name,
     return status;
 }
 
+int umc_call_into(const umc_program *shared, unsigned long budget, const char *words, size_t words_size, char *answer,
+                  size_t room, size_t *answer_size) {
+    umc_program *program = (umc_program *)shared;
+    byte none[1];
+    *answer_size = 0;
+    if (words_size >= MOST || room >= MOST) {
+        return UMC_NO_MEMORY;
+    }
+    struct question question = {.call = CALL, .program = &program->held, .budget = budget};
+    question.words = text_of(words, words_size);
+    pthread_mutex_lock(&program->lock);
+    int status = put(&question, answer ? (byte *)answer : none, answer ? room : 0, answer_size);
+    pthread_mutex_unlock(&program->lock);
+    return status;
+}
+
 void umc_close(umc_program *program) {
     if (program) {
         umc_embed_close(&program->held);

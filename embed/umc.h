@@ -76,6 +76,19 @@ int umc_types(const umc_program *program, char **answer, size_t *answer_size);
 int umc_call(const umc_program *program, unsigned long budget, const char *name, const char *const *arguments,
              size_t arguments_count, char **answer, size_t *answer_size);
 
+/*
+ * The same for many calls: the words come in one text, and the answer goes into the caller's room.
+ *
+ * words, words_size: the name and the arguments, a zero byte between each two, as "metres\0" "10<ft>"
+ * answer, room: the place of the answer, and how many bytes it has; NULL for none
+ * answer_size: set to the number of bytes of the answer
+ *
+ * The answer is in the room if it isn't longer than the room, without a zero byte after it. Otherwise the room stays as
+ * it was, and the caller may ask again with more. If memory is wanting, the status is UMC_NO_MEMORY and the size is 0.
+ */
+int umc_call_into(const umc_program *program, unsigned long budget, const char *words, size_t words_size, char *answer,
+                  size_t room, size_t *answer_size);
+
 /* Lets go of a program, which no thread uses any longer. NULL is allowed. */
 void umc_close(umc_program *program);
 

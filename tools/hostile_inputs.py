@@ -179,7 +179,7 @@ def refused() -> Iterator[Case]:
     made: list[tuple[str, Callable[[], bytes]]] = [
         ("1 MiB of numbers, and a bracket too many", lambda: filled("let k = [1", "; 1", ")")),
         ("1 MiB of measures, and a bracket too many", lambda: filled("", "[<Measure>] type m\n", ")")),
-                ("a line of 1 MiB", lambda: filled("let k =", " ", "@")),
+        ("a line of 1 MiB", lambda: filled("let k =", " ", "@")),
         ("1 MiB of tabs before the place", lambda: filled("", "\t", "@")),
         ("a name of 512 KiB that is nearly known", lambda: f"let {LONG} = 1\nlet j = {LONG[:-64]}\n".encode()),
         ("2,000 names that are nearly known", lambda: near_names(2000, 480)),
@@ -212,6 +212,10 @@ def cases() -> Iterator[Case]:
     yield Case("joins", "two stacks of 10,000 values that meet at 10,000 addresses", ["exec", "9", "f"],
                lambda: meetings(10_000, 10_000))
     yield Case("joins", "10,000 pushes, 10,000 lists of them", ["exec", "9", "f"], lambda: lists(10_000, 10_000))
+    images = script(ROOT / "bench" / "images.py")
+    for count in (280, 1_120):
+        yield Case("joins", f"{count:,} stacks of {count:,} values, of which each two meet", ["exec", "9", "f", "[1]"],
+                   lambda n=count: images.pairs(n))
     yield Case("shapes", "2 MiB of shapes 400 high", ["exec", "9", "f0000000"], lambda: shapes(1 << 21))
     yield Case("shapes", "16 MiB of shapes 400 high", ["exec", "9", "f0000000"], lambda: shapes(IMAGE))
     for levels in (16, 39):

@@ -185,6 +185,27 @@ static int calls_well(const umc_program *program, unsigned long budget, const ch
     return well;
 }
 
+/* Whether a call whose answer goes into room is answered so: more room than it needs, as much, and too little. */
+static int calls_into_well(const umc_program *program, unsigned long budget, const char *words, size_t words_size,
+                           int status, const char *expected) {
+    size_t length = strlen(expected), rooms[] = {2 * length, length, length - 1, 0};
+    char answer[128];
+    int well = 1;
+    for (int at = 0; at < 4; at++) {
+        size_t size = 77, put = rooms[at] < length ? 0 : length;
+        memset(answer, 'x', sizeof answer);
+        int found = umc_call_into(program, budget, words, words_size, rooms[at] ? answer : NULL, rooms[at], &size);
+        well = well && found == status && size == length && memcmp(answer, expected, put) == 0;
+        for (size_t after = put; after < sizeof answer; after++) {
+            well = well && answer[after] == 'x';
+        }
+    }
+    return well;
+}
+
+#define INTO(program, budget, words, status, expected) \
+    calls_into_well(program, budget, words, sizeof words - 1, status, expected)
+
 static int is_open_well(const umc_program *program) {
     char *answer;
     size_t size;
@@ -196,7 +217,15 @@ static int is_open_well(const umc_program *program) {
            calls_well(program, 10000001, "metres", "10<ft>", 1, "error 1: usage\n") &&
            calls_well(program, (unsigned long)-1, "metres", "10<ft>", 1, "error 1: usage\n") &&
            calls_well(program, 1, "metres", "10<m>", 11, "error 11: units of the arguments\n") &&
-           calls_well(program, 1, "yards", "1", 11, "error 11: no such function\n");
+           calls_well(program, 1, "yards", "1", 11, "error 11: no such function\n") &&
+           INTO(program, 1, "metres\0" "10<ft>", 0, "381r125<m>\n") &&
+           INTO(program, 9, "total\0[1<m>; 2.5<m>]", 0, "7r2<m>\n") &&
+           INTO(program, 10000001, "metres\0" "10<ft>", 1, "error 1: usage\n") &&
+           INTO(program, 1, "metres\0" "10<ft>\0", 11, "error 11: wrong number of arguments\n") &&
+           INTO(program, 1, "metres", 11, "error 11: wrong number of arguments\n") &&
+           INTO(program, 1, "metres\0\xff", 1, "error 1: usage\n") &&
+           INTO(program, 1, "", 11, "error 11: no such function\n") &&
+           calls_into_well(program, 1, NULL, 0, 11, "error 11: no such function\n");
 }
 
 static void check_programs(void) {
@@ -257,6 +286,16 @@ static void check_program_failures(void) {
     printf("open: %ld allocations, %ld of %ld refused\n", calls, refused, 2 * calls);
 }
 
+/* Whether a call is answered so, or memory is wanting and the room stays as it was. */
+static int is_whole_or_wanting(const umc_program *program) {
+    static const char words[] = "total\0[1<m>; 2.5<m>]";
+    char answer[16] = "unchanged";
+    size_t size = 77;
+    int status = umc_call_into(program, 9, words, sizeof words - 1, answer, sizeof answer, &size);
+    return status == UMC_NO_MEMORY ? size == 0 && strcmp(answer, "unchanged") == 0
+                                   : status == 0 && size == 7 && memcmp(answer, "7r2<m>\n", size) == 0;
+}
+
 /* A call that memory is wanting for leaves the program open. */
 static void check_call_failures(void) {
     umc_program *program;
@@ -277,7 +316,13 @@ static void check_call_failures(void) {
         refused += status == UMC_NO_MEMORY && !answer && !size;
         umc_free(answer);
         check(is_open_well(program), "an open program after a failed allocation");
+        asked = 0;
+        fail_at = at;
+        check(is_whole_or_wanting(program), "a call into room with a failed allocation");
+        fail_at = 0;
     }
+    int status = umc_call_into(program, 1, "", (size_t)-1, NULL, 0, &size);
+    check(status == UMC_NO_MEMORY && !size, "a size that no words have");
     umc_close(program);
     check(calls > 6 && refused > 0, "that allocations fail");
     printf("call: %ld allocations, %ld refused\n", calls, refused);

@@ -10,7 +10,7 @@ from conftest import DEBIAN, HOME, PROGRAM, SONAME, STATIC, VERSION, done, need
 CHECK = HOME / "embed/tests/check.c"
 WRAP = "-Wl,--wrap=malloc,--wrap=realloc"
 WARNINGS = ["-std=c11", "-Wall", "-Wextra", "-Werror", "-g", "-O1"]
-PUBLIC = ["umc_answer", "umc_call", "umc_close", "umc_free", "umc_open", "umc_types", "umc_version"]
+PUBLIC = ["umc_answer", "umc_call", "umc_call_into", "umc_close", "umc_free", "umc_open", "umc_types", "umc_version"]
 
 
 @pytest.mark.parametrize("checker", ["none", "address,undefined", "thread"])

@@ -252,6 +252,50 @@ def test_rows_are_asked_by_threads_in_their_order(vehicle, monkeypatch):
     assert caught.value.row == 8
 
 
+@pytest.mark.parametrize("given", [3, -3, Fraction(1, 3), Decimal("2.5"), "7", "2.5e3", (4, "ft"), "5<ft>"])
+def test_one_call_is_as_a_row_of_each(vehicle, given):
+    for unit in ("ft", ["ft"], ("ft",)):
+        assert vehicle.metres(given, unit=unit) == vehicle.metres.each([given], unit=unit)[0]
+
+
+def test_a_long_value_comes_whole(engine):
+    """Longer than the room that the library is first handed."""
+    long = ENDLESS.replace("  x39", "  x12")
+    program = umc.Program(long, engine=engine)
+    found = program.f.printed(1)
+    assert len(found) > 20_000 and found == umc.Program(long, engine=umc.Process(PROGRAM)).f.printed(1)
+    assert program.f.printed(2) == found.replace("1", "2")
+
+
+def test_no_word_holds_the_character_0(vehicle):
+    for given in ("1\0<ft>", "1<ft>\0", "\0"):
+        with pytest.raises(umc.Error):
+            vehicle.metres(given)
+    assert vehicle.metres("1<ft>").text == "381r1250<m>"
+
+
+def test_words_of_any_characters(engine):
+    program = umc.Program("let größe (x: num) = x", engine=engine)
+    assert program.größe(1).magnitude == 1
+    for given in ("π", "1<\U0001f600>", "\udcff", "\ud800"):
+        with pytest.raises((umc.Refused, UnicodeEncodeError)):
+            program.größe(given)
+
+
+@pytest.mark.parametrize("budget", [-1, 1 << 64, 1 << 80, 10_000_001])
+def test_a_budget_that_is_none(engine, budget):
+    program = umc.Program("let k (x: num) = x", engine=engine, budget=budget)
+    with pytest.raises(umc.Refused) as caught:
+        program.k(1)
+    assert caught.value.kind == "usage"
+
+
+def test_functions_with_the_names_of_methods_are_items(engine):
+    program = umc.Program("let types (x: num) = x + 1\nlet budget (x: num) = x\nlet _text (x: num) = x", engine=engine)
+    assert program["types"](1).magnitude == 2 and list(program.types()) == ["types", "budget", "_text"]
+    assert program.budget == 10_000_000 and program["budget"](3).magnitude == 3 and program["_text"](4).magnitude == 4
+
+
 def test_a_question_that_is_refused_as_a_whole_has_no_row(engine):
     program = umc.Program.read(VEHICLE, engine=engine, budget=20_000_000)
     with pytest.raises(umc.Refused) as caught:

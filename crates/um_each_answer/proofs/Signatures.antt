@@ -23,7 +23,7 @@ use Rattle.um_reader.specs.Machine.{runs, reached}
 use Rattle.um_reader.specs.ReadTo.{ReadAll}
 use Rattle.um_reader.specs.declared.reading.ReadStop.{ReadStop}
 use Rattle.um_reader.specs.declared.reading.ReadStop.TheVariants as read_stop
-use Rattle.um_reader.proofs.Ends.{each_has_reading}
+use Rattle.um_parse.proofs.Ends.{each_has_reading}
 use Rattle.um_unit_texts.specs.UnitStops.{greatest_height, place_of}
 use Rattle.um_types.specs.TypeMachine.{TypeState, NeedType, HaveType, InNote, NoType, type_act, type_finish}
 use Rattle.um_types.specs.TypeHeights.{all_height}

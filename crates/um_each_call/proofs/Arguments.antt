@@ -13,7 +13,7 @@ use Rattle.um_tree.specs.Formed.{IsFormed}
 use Rattle.um_reader.specs.ReadTo.{ReadAll}
 use Rattle.um_reader.specs.declared.reading.ReadStop.{ReadStop}
 use Rattle.um_reader.specs.declared.reading.ReadStop.TheVariants as read_stop
-use Rattle.um_reader.proofs.Ends.{each_has_reading}
+use Rattle.um_parse.proofs.Ends.{each_has_reading}
 use Rattle.um_unit_texts.specs.UnitStops.{greatest_height, place_of}
 use Rattle.um_measures.specs.Known.{Known, measure_unit}
 use Rattle.um_value.specs.declared.stop.InputStop.{InputStop}

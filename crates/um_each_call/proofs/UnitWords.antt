@@ -20,7 +20,7 @@ use Rattle.um_reader.specs.declared.reading.ReadStop.{ReadStop}
 use Rattle.um_reader.specs.declared.reading.ReadStop.TheVariants as read_stop
 use Rattle.um_reader.proofs.Readers.{unambiguous}
 use Rattle.um_reader.proofs.Answers.{one_answer}
-use Rattle.um_reader.proofs.Ends.{each_has_reading}
+use Rattle.um_parse.proofs.Ends.{each_has_reading}
 use Rattle.um_unit_texts.specs.UnitGrammar.{IsUnit}
 use Rattle.um_unit_texts.specs.UnitStops.{greatest_height}
 use Rattle.um_unit_texts.specs.UnitMachine.{State, Need, Have, Raised, Lowered, Refused}

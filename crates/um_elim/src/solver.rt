@@ -1,12 +1,14 @@
 //! The solver: it takes rows one by one and keeps their most general solution.
 
 ghost use Rattle.std.specs.Prelude.{◌≡◌, ◌≤◌, ◌<◌, ◌+◌, ◌^◌, nat_lt, if◌then◌else◌, [], ◌∷◌, length, map, All, IfOk};
-ghost use Rattle.std.specs.Prelude.{OnOk, MatchResult};
+ghost use Rattle.std.specs.Prelude.{IsTrue, OnOk, MatchResult, false};
 ghost use Rattle.std.specs.List.{range_with_len};
 ghost use Rattle.um_elim.specs.Index.{IsIndex};
+ghost use Rattle.um_units.specs.PowerMap.{nth};
 ghost use Rattle.um_units.specs.Variables.{VariablesBelow};
 ghost use Rattle.um_tree.specs.TypeTree.{type_tree};
-ghost use Rattle.um_elim.specs.Application.{IsApplied, VariablesAreBelow};
+ghost use Rattle.um_tree.specs.Typing.{put};
+ghost use Rattle.um_elim.specs.Application.{IsApplied, VariablesAreBelow, type_fits};
 ghost use Rattle.um_elim.specs.Adding.{IsAdded, HasInstances, SolvesRows, VariablesStayBelow};
 ghost use Rattle.um_elim.specs.Elimination.{Solved, eliminate};
 ghost use Rattle.um_elim.specs.Instances.{SolvesExactly};
@@ -14,7 +16,7 @@ ghost use Rattle.um_elim.specs.Solution.{fresh, rigid, rigid_unit, rigid_units, 
 ghost use Rattle.um_elim.specs.Steps.{StopsAs};
 
 use crate::ElimStop;
-use crate::application::put_in_type;
+use crate::application::{put_in_type, stays_in_type};
 use crate::index::SlotList;
 use crate::step::{AfterStep, take_step};
 use std::alloc::{AllocError, Global};
@@ -114,6 +116,30 @@ impl Solver {
             return Ok(put_in_type(alloc, &self.units, ty)?);
         }
         Err(ElimStop::Spent)
+    }
+
+    /// The same as `apply`, of a type that is handed over: it comes back as it is if the solution leaves it alone.
+    pub fn apply_to(&self, alloc: Global, ty: Ty) -> Result<Ty, ElimStop>
+        ensures { IsApplied self.now (type_tree ty) result }
+    {
+        if self.leaves(&ty) {
+            return Ok(ty);
+        }
+        let solved = self.apply(alloc, &ty);
+        drop(ty);
+        solved
+    }
+
+    /// Whether the solution's unit for each slot of the type is the slot itself, and no row was refused.
+    fn leaves(&self, ty: &Ty) -> bool
+        ensures unspent { IsTrue result → self.now.spent ≡ false }
+        ensures left { IsTrue result → put (nth self.now.units) (type_tree ty.now) ≡ type_tree ty.now }
+        ensures fits { IsTrue result → IsTrue (type_fits (type_tree ty.now)) }
+    {
+        if !self.spent {
+            return stays_in_type(&self.units, ty);
+        }
+        false
     }
 }
 

@@ -10,7 +10,7 @@ use Rattle.um_types.specs.declared.parse.ParseStop.TheVariants as stop
 use Rattle.um_reader.specs.ReadTo.{ReadAll}
 use Rattle.um_reader.specs.declared.reading.ReadStop.{ReadStop}
 use Rattle.um_reader.specs.declared.reading.ReadStop.TheVariants as read_stop
-use Rattle.um_reader.proofs.Ends.{each_has_reading, begins_or_not, text_or_not}
+use Rattle.um_parse.proofs.Ends.{each_has_reading, begins_or_not, text_or_not}
 use Rattle.um_unit_texts.specs.UnitStops.{greatest_height, place_of}
 use Rattle.um_decls.specs.DeclMachine.{ProgramState, InProgram, NoProgram}
 use Rattle.um_parse.specs.DeclGrammar.{IsProgram}

@@ -15,4 +15,5 @@ mod LimitLaws
 mod ProgramSteps
 mod Front
 mod ProgramParsed
+pub mod Ends
 mod EachList

@@ -3,4 +3,3 @@ pub mod Texts
 pub mod Readers
 pub mod Answers
 pub mod Loop
-pub mod Ends

@@ -1,6 +1,7 @@
 mod Below
 mod Nests
 mod Fitting
+mod Passed
 mod Nodes
 mod JoinedStacks
 mod KeptJoins

@@ -5,7 +5,7 @@ use Rattle.std.proofs.lemmas.Option.{slice_get_read}
 use Rattle.std.proofs.Math.Seq.{get_or-append_seam}
 use Rattle.um_stacks.specs.declared.flat.FlatShape.{FlatShape}
 use Rattle.um_stacks.specs.declared.stacks.Node.{Node}
-use Rattle.um_stacks.specs.Stacks.{stack_at, and_nodes, stacks_of, IsPartOf, IsNodeOf, AreNodes}
+use Rattle.um_stacks.specs.Stacks.{stack_at, and_nodes, stacks_of, IsPartOf, IsPassed, IsNodeOf, AreNodes}
 
 pub stacks_push : (stacks : List (List FlatShape)) (nodes : List Node) (node : Node) → and_nodes stacks (nodes ++ node ∷ []) ≡ and_nodes stacks nodes ++ (stack_at (and_nodes stacks nodes) node.below ++ node.top ∷ []) ∷ []
 stacks_push stacks [] node = refl
@@ -40,7 +40,7 @@ node_stays stacks more k node h =
     let j = h.jump in
     let here : stack_at (stacks ++ more) k ≡ stack_at stacks k = stays stacks more k n in
     let low : stack_at (stacks ++ more) node.below ≡ stack_at stacks node.below = stays stacks more node.below (omega arith) in
-    let jumped : stack_at (stacks ++ more) node.jump ≡ stack_at stacks node.jump = stays stacks more node.jump (omega arith) in
+    let jumped : stack_at (stacks ++ more) node.jump.to ≡ stack_at stacks node.jump.to = stays stacks more node.jump.to (omega arith) in
     record {
       number = omega arith;
       whole = here ∙ h.whole ∙ ap (λ (s : List FlatShape). s ++ node.top ∷ []) (sym low);
@@ -48,7 +48,7 @@ node_stays stacks more k node h =
       few = h.few;
       below = b;
       jump = j;
-      part = (h.part.0, here ∙ h.part.1 ∙ ap (λ (s : List FlatShape). s ++ h.part.0) (sym jumped));
+      passed = (h.passed.0, here ∙ h.passed.1 ∙ ap (λ (s : List FlatShape). s ++ h.passed.0) (sym jumped), h.passed.2);
     }
 
 pushed_at : (nodes : List Node) (node : Node) (k : ℕ) (n : Node) → slice_get (nodes ++ node ∷ []) k ≡ Some n → (slice_get nodes k ≡ Some n) ⊎ ((k ≡ length nodes) × (node ≡ n))
@@ -121,14 +121,14 @@ whole_length low whole top h = ap (λ (s : List FlatShape). length s) h ∙ leng
 
 -- ---- one more stack
 
-pub node_above : (stacks : List (List FlatShape)) (node : Node) (height : ℕ) → node.below < length stacks → node.jump < length stacks → height ≡ length (stack_at stacks node.below) → height ≤ node.below → node.height ≡ height + 1 → IsPartOf (stack_at stacks node.jump) (stack_at stacks node.below) → IsNodeOf (stacks ++ (stack_at stacks node.below ++ node.top ∷ []) ∷ []) (length stacks) node
+pub node_above : (stacks : List (List FlatShape)) (node : Node) (height : ℕ) → node.below < length stacks → node.jump.to < length stacks → height ≡ length (stack_at stacks node.below) → height ≤ node.below → node.height ≡ height + 1 → IsPassed (stack_at stacks node.jump.to) (stack_at stacks node.below ++ node.top ∷ []) node.jump.passed → IsNodeOf (stacks ++ (stack_at stacks node.below ++ node.top ∷ []) ∷ []) (length stacks) node
 node_above stacks node height b j h few n p =
     let st : List FlatShape = stack_at stacks node.below ++ node.top ∷ [] in
     let l : length (stacks ++ st ∷ []) ≡ length stacks + 1 = length-append stacks (st ∷ []) in
     let long : length st ≡ length (stack_at stacks node.below) + 1 = length-append (stack_at stacks node.below) (node.top ∷ []) in
     let here : stack_at (stacks ++ st ∷ []) (length stacks) ≡ st = get_or-append_seam stacks st [] [] in
     let low : stack_at (stacks ++ st ∷ []) node.below ≡ stack_at stacks node.below = stays stacks (st ∷ []) node.below b in
-    let jumped : stack_at (stacks ++ st ∷ []) node.jump ≡ stack_at stacks node.jump = stays stacks (st ∷ []) node.jump j in
+    let jumped : stack_at (stacks ++ st ∷ []) node.jump.to ≡ stack_at stacks node.jump.to = stays stacks (st ∷ []) node.jump.to j in
     let height_is : length (stack_at (stacks ++ st ∷ []) (length stacks)) ≡ length st = ap (λ (s : List FlatShape). length s) here in
     record {
       number = omega arith;
@@ -137,5 +137,5 @@ node_above stacks node height b j h few n p =
       few = omega arith;
       below = b;
       jump = j;
-      part = (p.0 ++ node.top ∷ [], here ∙ ap (λ (s : List FlatShape). s ++ node.top ∷ []) p.1 ∙ append_assoc (stack_at stacks node.jump) p.0 (node.top ∷ []) ∙ ap (λ (s : List FlatShape). s ++ (p.0 ++ node.top ∷ [])) (sym jumped));
+      passed = (p.0, here ∙ p.1 ∙ ap (λ (s : List FlatShape). s ++ p.0) (sym jumped), p.2);
     }

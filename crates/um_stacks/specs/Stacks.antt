@@ -1,9 +1,9 @@
 -- Stacks of shapes by their numbers. This mirrors the code.
 -- Source: this project's own; the jumps are those of E. W. Myers, An applicative random-access stack, 1983.
 use Rattle.std.specs.Prelude.{◌≡◌, ◌<◌, ◌≤◌, ◌+◌, ◌^◌, ℕ, List, [], ◌∷◌, ◌++◌, length, map, take, reverse, get_or, slice_get}
-use Rattle.std.specs.Prelude.{Option, Some, None, MatchOption}
-use Rattle.um_verify.specs.StackShape.{StackShape, join_all}
-use Rattle.um_stacks.specs.FlatShapes.{flat_shapes}
+use Rattle.std.specs.Prelude.{Option, Some, None, option_map, MatchOption}
+use Rattle.um_verify.specs.StackShape.{StackShape, join_all, join_with, join_items}
+use Rattle.um_stacks.specs.FlatShapes.{flat_shape, flat_shapes}
 use Rattle.um_stacks.specs.declared.flat.FlatShape.{FlatShape}
 use Rattle.um_stacks.specs.declared.stacks.Node.{Node}
 use Rattle.um_stacks.specs.declared.stacks.KeptJoin.{KeptJoin}
@@ -38,6 +38,16 @@ stacks_of nodes = and_nodes ([] ∷ []) nodes
 abbrev pub IsPartOf : List FlatShape → List FlatShape → Type 0
 IsPartOf low whole = (rest : List FlatShape) × (whole ≡ low ++ rest)
 
+-- the join of the shapes of two lists, from the joins of each
+abbrev pub join_both : Option StackShape → Option StackShape → Option StackShape
+join_both None o = None
+join_both (Some s) o = join_with s o
+
+-- the first list is a lower part of the second, and `passed` is the join of the shapes above it, if they have one
+abbrev pub IsPassed : List FlatShape → List FlatShape → Option FlatShape → Type 0
+IsPassed low whole passed =
+    (rest : List FlatShape) × (whole ≡ low ++ rest) × (option_map flat_shape passed ≡ join_items (flat_shapes rest))
+
 -- the node of stack k, which names lower numbers alone
 pub record IsNodeOf (stacks : List (List FlatShape)) (k : ℕ) (node : Node) : Type 0 where
   pub number : k < length stacks
@@ -45,8 +55,8 @@ pub record IsNodeOf (stacks : List (List FlatShape)) (k : ℕ) (node : Node) : T
   pub height : node.height ≡ length (stack_at stacks k)
   pub few : node.height ≤ k
   pub below : node.below < k
-  pub jump : node.jump < k
-  pub part : IsPartOf (stack_at stacks node.jump) (stack_at stacks k)
+  pub jump : node.jump.to < k
+  pub passed : IsPassed (stack_at stacks node.jump.to) (stack_at stacks k) node.jump.passed
 
 pub record AreNodes (nodes : List Node) : Type 0 where
   pub few : length nodes < 2 ^ 32

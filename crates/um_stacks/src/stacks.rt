@@ -1,11 +1,12 @@
 //! Stacks by their numbers.
-ghost use Rattle.std.specs.Prelude.{◌≡◌, ◌<◌, ◌≤◌, ◌+◌, ◌^◌, ◌++◌, ◌∷◌, [], length, take, slice_get};
-ghost use Rattle.std.specs.Prelude.{IfOk, OnOk, MatchOption};
+ghost use Rattle.std.specs.Prelude.{◌≡◌, ◌<◌, ◌≤◌, ◌+◌, ◌^◌, ◌++◌, ◌∷◌, [], length, take, drop, slice_get};
+ghost use Rattle.std.specs.Prelude.{IfOk, OnOk, MatchOption, option_map};
 ghost use Rattle.std.specs.Bool.{MatchBool};
-ghost use Rattle.um_stacks.specs.Stacks.{stack_at, shapes_at, Grows, IsPartOf, IsNodeOf, IsJoinOf};
-ghost use Rattle.um_stacks.specs.FlatShapes.{flat_shape};
+ghost use Rattle.um_verify.specs.StackShape.{join_items};
+ghost use Rattle.um_stacks.specs.Stacks.{stack_at, shapes_at, Grows, IsPassed, IsNodeOf, IsJoinOf, join_both};
+ghost use Rattle.um_stacks.specs.FlatShapes.{flat_shape, flat_shapes};
 
-use crate::flat::FlatShape;
+use crate::flat::{FlatShape, Item};
 use std::alloc::{AllocError, Global};
 use std::collections::BTreeMap;
 use std::marker::Model;
@@ -13,14 +14,21 @@ use std::marker::Model;
 /// The number of the empty stack.
 pub const EMPTY: u32 = 0;
 
-/// A stack that isn't empty: its top, the number of the stack below the top, its height, and the number of a lower part
-/// to which a search jumps.
+/// A step down a stack: the number of the lower part to which it goes, and the join of the shapes that it passes, if
+/// they have one.
+#[derive(Clone, Copy)]
+struct Step {
+    to: u32,
+    passed: Option<FlatShape>,
+}
+
+/// A stack that isn't empty: its top, the number of the stack below the top, its height, and the step of a search.
 #[derive(Clone, Copy)]
 struct Node {
     top: FlatShape,
     below: u32,
     height: u32,
-    jump: u32,
+    jump: Step,
 }
 
 /// A join that was made: of two stacks, by their numbers. Nothing if they have none.
@@ -67,6 +75,19 @@ fn are_same(a: FlatShape, b: FlatShape) -> bool
         return false;
     }
     b.fits(a)
+}
+
+/// The join of the shapes of two lists, from the joins of each.
+fn joined(first: Option<FlatShape>, second: Option<FlatShape>) -> Option<FlatShape>
+    ensures { option_map flat_shape result ≡ join_both (option_map flat_shape first) (option_map flat_shape second) }
+{
+    match first {
+        None => None,
+        Some(x) => match second {
+            None => None,
+            Some(y) => x.join(y),
+        },
+    }
 }
 
 impl Stacks {
@@ -142,19 +163,26 @@ impl Stacks {
         }
     }
 
-    /// A lower part of a stack that is at least so high: one step on the way down.
-    fn step_down(&self, stack: u32, height: u32) -> u32
+    /// A step to a lower part of a stack that is at least so high.
+    fn step_down(&self, stack: u32, height: u32) -> Step
         requires { height < length (stack_at self.now stack) }
-        ensures lower { result < stack }
-        ensures part { take height (stack_at self.now result) ≡ take height (stack_at self.now stack) }
+        ensures lower { result.to < stack }
+        ensures high { height ≤ length (stack_at self.now result.to) }
+        ensures passed { IsPassed (stack_at self.now result.to) (stack_at self.now stack) result.passed }
     {
         match self.node(stack) {
-            None => EMPTY,
+            None => Step {
+                to: EMPTY,
+                passed: None,
+            },
             Some(node) => {
-                if self.height(node.jump) >= height {
+                if self.height(node.jump.to) >= height {
                     node.jump
                 } else {
-                    node.below
+                    Step {
+                        to: node.below,
+                        passed: Some(node.top),
+                    }
                 }
             }
         }
@@ -168,9 +196,25 @@ impl Stacks {
     {
         let mut low = stack;
         while self.height(low) > height {
-            low = self.step_down(low, height);
+            low = self.step_down(low, height).to;
         }
         low
+    }
+
+    /// The join of the shapes from this place up to the top, if they have one: the shape of the items of a list of them.
+    /// It takes time logarithmic in the height.
+    pub fn joined_items(&self, stack: u32, place: u32) -> Option<FlatShape>
+        requires { place ≤ length (stack_at self.now stack) }
+        ensures { option_map flat_shape result ≡ join_items (flat_shapes (drop place (stack_at self.now stack))) }
+    {
+        let mut items = Some(FlatShape::of(Item::Void));
+        let mut low = stack;
+        while self.height(low) > place {
+            let step = self.step_down(low, place);
+            items = joined(step.passed, items);
+            low = step.to;
+        }
+        items
     }
 
     /// The shape at a place, counted from 0 at the bottom, if there is one. It takes time logarithmic in the height.
@@ -198,32 +242,42 @@ impl Stacks {
         }
     }
 
-    /// The lower part from which a search goes on.
-    fn jump(&self, stack: u32) -> u32
+    /// The step of a search.
+    fn jump(&self, stack: u32) -> Step
         requires { stack < length self.now }
-        ensures number { result < length self.now }
-        ensures part { IsPartOf (stack_at self.now result) (stack_at self.now stack) }
+        ensures number { result.to < length self.now }
+        ensures passed { IsPassed (stack_at self.now result.to) (stack_at self.now stack) result.passed }
     {
         match self.node(stack) {
-            None => stack,
+            None => Step {
+                to: stack,
+                passed: Some(FlatShape::of(Item::Void)),
+            },
             Some(node) => node.jump,
         }
     }
 
-    /// Where the jump of a stack goes that is one higher than this one. Jumps pass over 1, 3, 7, 15, .. shapes: over as
+    /// The jump of the stack with this top above this one. Jumps pass over 1, 3, 7, 15, .. shapes: over as
     /// many as two equal jumps below and the top together.
-    fn jump_above(&self, below: u32) -> u32
+    fn jump_above(&self, below: u32, top: FlatShape) -> Step
         requires { below < length self.now }
-        ensures number { result < length self.now }
-        ensures part { IsPartOf (stack_at self.now result) (stack_at self.now below) }
+        ensures number { result.to < length self.now }
+        ensures passed { IsPassed (stack_at self.now result.to) (stack_at self.now below ++ top ∷ []) result.passed }
     {
         let first = self.jump(below);
-        let second = self.jump(first);
-        let middle = self.height(first) as u64;
-        if self.height(below) as u64 + self.height(second) as u64 == middle + middle {
-            second
+        let second = self.jump(first.to);
+        let middle = self.height(first.to) as u64;
+        if self.height(below) as u64 + self.height(second.to) as u64 == middle + middle {
+            let upper = joined(first.passed, Some(top));
+            Step {
+                to: second.to,
+                passed: joined(second.passed, upper),
+            }
         } else {
-            below
+            Step {
+                to: below,
+                passed: Some(top),
+            }
         }
     }
 
@@ -253,7 +307,7 @@ impl Stacks {
             top,
             below,
             height: self.height(below) + 1,
-            jump: self.jump_above(below),
+            jump: self.jump_above(below, top),
         }
     }
 

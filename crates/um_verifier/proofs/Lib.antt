@@ -14,5 +14,4 @@ mod Loop
 mod EachBody
 mod Taken
 mod TakenMany
-mod TopItems
 mod TopFits

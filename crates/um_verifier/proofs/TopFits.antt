@@ -4,7 +4,11 @@ use Rattle.std.proofs.lemmas.List.{map_push, length-map, take_more, take_all}
 use Rattle.um_verify.specs.StackShape.{StackShape, fits, fit_all}
 use Rattle.um_stacks.specs.FlatShapes.{flat_shape, flat_shapes}
 use Rattle.um_stacks.specs.declared.flat.FlatShape.{FlatShape}
-use Rattle.um_verifier.proofs.TopItems.{drop_front}
+
+drop_front : (place : ℕ) (us vs : List FlatShape) → place ≤ length us → drop place (us ++ vs) ≡ drop place us ++ vs
+drop_front zero us vs h = refl
+drop_front (suc place) [] vs h = absurd (omega arith)
+drop_front (suc place) (u ∷ us) vs h = drop_front place us vs (omega arith)
 
 cond_itself : (b : Bool) → cond b true false ≡ b
 cond_itself true = refl

@@ -4,7 +4,7 @@ ghost use Rattle.std.specs.Prelude.{◌≡◌, ◌<◌, ◌≤◌, ◌+◌, ◌-
 ghost use Rattle.um_machine.specs.declared.op.Op.TheVariants.{Load, JumpIfNot, MakeList, Cons, Split, MakeRec, Field};
 ghost use Rattle.um_machine.specs.declared.op.Op.TheVariants.{Slide, Call, Ret};
 ghost use Rattle.um_machine.specs.Stack.{on_found};
-ghost use Rattle.um_verify.specs.StackShape.{num, list, fits, fit_all, join_items};
+ghost use Rattle.um_verify.specs.StackShape.{num, list, fits, fit_all};
 ghost use Rattle.um_verify.specs.Rules.{Body, fails, to, fit_one, fit_two, rule};
 ghost use Rattle.um_machine.specs.declared.code.Code.{Code};
 ghost use Rattle.um_stacks.specs.FlatShapes.{item_shape, flat_shape, flat_shapes};
@@ -197,31 +197,9 @@ pub(crate) fn make_list(known: &Known, stacks: &Stacks, stack: u32, at: u32, n: 
     if height < n {
         return Flow::Fails;
     }
-    let item = joined_items(stacks, stack, height - n);
+    let item = stacks.joined_items(stack, height - n);
     let low = stacks.lower(stack, height - n);
     pushed_list(known, stacks, low, at, item)
-}
-
-/// The shape of the items of a list of what stands from this place up to the top. Nothing if these have no join.
-fn joined_items(stacks: &Stacks, stack: u32, place: u32) -> Option<FlatShape>
-    requires { place ≤ length (stack_at stacks.now stack) }
-    ensures { option_map flat_shape result ≡ join_items (flat_shapes (drop place (stack_at stacks.now stack))) }
-{
-    let mut item = FlatShape::of(Item::Void);
-    let mut low = stack;
-    while stacks.height(low) > place {
-        match stacks.pop(low) {
-            None => return None,
-            Some((y, below)) => match y.join(item) {
-                None => return None,
-                Some(joined) => {
-                    item = joined;
-                    low = below;
-                }
-            },
-        }
-    }
-    Some(item)
 }
 
 /// The stack with a list of such items goes to the next address, if there is such an item and the list is low.

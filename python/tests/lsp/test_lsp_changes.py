@@ -12,6 +12,7 @@ sys.path.insert(0, str(HOME / "python"))
 
 from umc.lsp import colours  # noqa: E402
 from umc.lsp.kept import Kept  # noqa: E402
+from umc.lsp.names import SPACES, Space  # noqa: E402
 from umc.lsp.positions import Lines, changed  # noqa: E402
 from umc.lsp.reading import Reading  # noqa: E402
 from umc.lsp.tokens import split  # noqa: E402
@@ -60,16 +61,25 @@ def told(version: Version) -> dict[str, Any]:
                           made.holes, [name.token for name in made.members]) for made in reading.declarations],
         "names": [(name.sort, name.token, name.uses, name.known_from, name.known_to) for name in reading.names],
         "meant": [(name.sort, name.token) if name else None for name in names],
-        "known": [[(text, name.token) for text, name in space.items()] for space in reading.known.values()],
+        "known": [[(name.text, name.token) for name in reading.all_known(space)] for space in SPACES],
         "unknown": reading.unknown,
         "at": [reading.token_at(offset) for offset in range(length + 1)],
         "colours": colours.semantic_tokens(version, {}),  # type: ignore[arg-type]
     }
 
 
+def used(reading: Reading, space: Space, text: str) -> list[int]:
+    """Where the name with these letters is used."""
+    name = reading.known(space, text)
+    return [use.start for use in name.uses] if name else []
+
+
 def checked(text: str, kept: Kept) -> Version:
     """A version that is read with what is kept, and that tells what a fresh reading tells."""
     version = Version(text, kept)
+    for made in version.reading.declarations:
+        assert made.section.declares == [(space, name.text) for space, name in made.piece.declared]
+        assert made.section.end == made.piece.end
     found, fresh = told(version), told(Version(text))
     assert found["tokens"] == split(text)
     every = {"range": version.lines.range(0, len(text))}
@@ -129,7 +139,7 @@ def test_two_declarations_with_the_same_letters() -> None:
     reading = checked(text, Kept()).reading
     assert reading.declarations[0].piece is reading.declarations[2].piece
     assert [token.start for token in reading.unknown] == [8]
-    assert [use.start for use in reading.functions["f"].uses] == [text.rindex("f")]
+    assert used(reading, "function", "f") == [text.rindex("f")]
     assert [[use.start for use in name.uses] for name in reading.names if name.text == "k"] == [
         [text.index("k\n"), text.rindex("k")], []]
 
@@ -139,9 +149,9 @@ def test_a_name_is_known_after_its_declaration() -> None:
     text = "let f = f + g\nlet rec g (x: num) : num = g x + f\ntype r = { a: r }\nlet g = 1\nlet h (x: r) = g\n"
     reading = checked(text, Kept()).reading
     assert [token.start for token in reading.unknown] == [text.index("f + g"), text.index("g\n"), text.index("r }")]
-    assert [use.start for use in reading.functions["g"].uses] == [text.index("g x"), text.rindex("g")]
-    assert [use.start for use in reading.functions["f"].uses] == [text.index("f\ntype")]
-    assert [use.start for use in reading.types["r"].uses] == [text.index("r) =")]
+    assert used(reading, "function", "g") == [text.index("g x"), text.rindex("g")]
+    assert used(reading, "function", "f") == [text.index("f\ntype")]
+    assert used(reading, "type", "r") == [text.index("r) =")]
 
 
 def test_a_byte_order_mark_comes_and_goes() -> None:

@@ -48,10 +48,12 @@ class Handle(Protocol):
     def ask(self, words: Sequence[str]) -> Answer:
         """The answer of a command on the text."""
 
-    def call(self, budget: str, words: Sequence[str]) -> Answer:
-        """The answer to one call: the words are the function's name and its arguments."""
+    def call(self, budget: int, words: Sequence[str]) -> str | Answer:
+        """The value that one call prints, or the answer that refuses it: the words are the function's name and its
+        arguments.
+        """
 
-    def calls(self, budget: str, name: str, columns: Sequence[list[str]]) -> list[str] | Answer:
+    def calls(self, budget: int, name: str, columns: Sequence[list[str]]) -> list[str] | Answer:
         """The lines that calls of a function print, one for each row of columns: a value, or a report line.
 
         An answer refuses all of them.
@@ -131,11 +133,12 @@ class TextHandle:
         """The answer of a command on the text."""
         return self._engine.answer(words, self._text)
 
-    def call(self, budget: str, words: Sequence[str]) -> Answer:
-        """The answer to one call."""
-        return self.ask(["run", budget, *words])
+    def call(self, budget: int, words: Sequence[str]) -> str | Answer:
+        """The value that one call prints, or the answer that refuses it."""
+        answer = self.ask(["run", str(budget), *words])
+        return line_of(answer) if answer.status == 0 else answer
 
-    def calls(self, budget: str, name: str, columns: Sequence[list[str]]) -> list[str] | Answer:
+    def calls(self, budget: int, name: str, columns: Sequence[list[str]]) -> list[str] | Answer:
         """The lines of many calls: the text is read once for each ten thousand, if the engine has `calls`."""
         rows = len(columns[0]) if columns else 0
         pieces = [[column[first:first + CHUNK] for column in columns] for first in range(0, rows, CHUNK)]
@@ -148,13 +151,13 @@ class TextHandle:
                 found += lines
         return found
 
-    def _chunk(self, budget: str, name: str, columns: Sequence[list[str]]) -> list[str] | Answer:
+    def _chunk(self, budget: int, name: str, columns: Sequence[list[str]]) -> list[str] | Answer:
         source = self._before_calls + os.fsencode(lines_of_calls(name, columns))
-        answer = self._engine.answer(["calls", budget], source)
+        answer = self._engine.answer(["calls", str(budget)], source)
         return line_of(answer).split("\n") if answer.status == 0 else answer
 
-    def _one_by_one(self, budget: str, name: str, columns: Sequence[list[str]]) -> list[str] | Answer:
-        answers = [self.call(budget, [name, *row]) for row in zip(*columns)]
+    def _one_by_one(self, budget: int, name: str, columns: Sequence[list[str]]) -> list[str] | Answer:
+        answers = [self.ask(["run", str(budget), name, *row]) for row in zip(*columns)]
         silent = [answer for answer in answers if not answer.output]
         return silent[0] if silent else [line_of(answer) for answer in answers]
 

@@ -2,13 +2,12 @@
 import ctypes
 import ctypes.util
 import os
-import re
 import resource
 import sys
 from collections.abc import Sequence
 from functools import cache, cached_property
 from pathlib import Path
-from typing import Any
+from typing import Any, NamedTuple
 
 from umc.embed.engines import PROBES, UNKNOWN_WORDS, Handle, TextHandle
 from umc.errors import Unavailable, WordsTooLong
@@ -18,7 +17,9 @@ NAME = "libumc.so.1"
 STACK = 8 << 20
 VARIABLE = "UMC_LIBRARY"
 NO_LIBRARY = ("", "none")
-IS_BUDGET = re.compile("[0-9]{1,8}")
+FIRST_ROOM = 1 << 12     # bytes for the answer of a call; a longer one is computed twice
+MOST_BUDGET = (1 << 64) - 1     # that the library's call can be handed
+NO_ZERO = "no word may hold the character 0"
 
 
 def folders() -> list[Path]:
@@ -68,7 +69,8 @@ class Library:
         try:
             self._calls = ctypes.CDLL(found)
             self._answer, self._free = self._calls.umc_answer, self._calls.umc_free
-            self._open, self._call, self._close = self._calls.umc_open, self._calls.umc_call, self._calls.umc_close
+            self._open, self._close = self._calls.umc_open, self._calls.umc_close
+            self._call_into = self._calls.umc_call_into
         except (OSError, AttributeError) as fault:
             raise Unavailable(f"{found}: {fault}") from fault
         text: list[Any] = [ctypes.c_char_p, ctypes.c_size_t]
@@ -76,7 +78,8 @@ class Library:
         answer: list[Any] = [ctypes.POINTER(ctypes.c_void_p), ctypes.POINTER(ctypes.c_size_t)]
         self._answer.argtypes = [*words, *text, *answer]
         self._open.argtypes = [*text, ctypes.POINTER(ctypes.c_void_p), *answer]
-        self._call.argtypes = [ctypes.c_void_p, ctypes.c_ulong, ctypes.c_char_p, *words, *answer]
+        room: list[Any] = [ctypes.c_void_p, ctypes.c_size_t, ctypes.c_void_p]
+        self._call_into.argtypes = [ctypes.c_void_p, ctypes.c_ulong, *text, *room]
         self._free.argtypes = self._close.argtypes = [ctypes.c_void_p]
         self._free.restype = self._close.restype = None
         self.path = Path(found) if "/" in found else loaded(found)
@@ -90,7 +93,9 @@ class Library:
 
     def answer(self, words: Sequence[str], text: bytes) -> Answer:
         """The library's answer to these words about a text. Other threads run meanwhile."""
-        given = encoded(words)
+        if "\0" in "".join(words):
+            raise WordsTooLong(NO_ZERO)
+        given = [word.encode("utf-8", "surrogateescape") for word in words]
         begin, size = ctypes.c_void_p(), ctypes.c_size_t()
         status = self._answer((ctypes.c_char_p * len(given))(*given), len(given), text, len(text),
                               ctypes.byref(begin), ctypes.byref(size))
@@ -108,11 +113,20 @@ class Library:
             self._free(begin)
 
 
-def encoded(words: Sequence[str]) -> list[bytes]:
-    """The words as the library takes them."""
-    if "\0" in "".join(words):
-        raise WordsTooLong("no word may hold the character 0")
-    return [word.encode("utf-8", "surrogateescape") for word in words]
+class Room(NamedTuple):
+    """Room for an answer and for its size, their addresses, and how many bytes an answer may have."""
+
+    answer: "ctypes.Array[ctypes.c_char]"
+    size: ctypes.c_size_t
+    answer_at: int
+    size_at: int
+    most: int
+
+
+def room_for(most: int) -> Room:
+    """Room for an answer of so many bytes."""
+    answer, size = ctypes.create_string_buffer(most), ctypes.c_size_t()
+    return Room(answer, size, ctypes.addressof(answer), ctypes.addressof(size), most)
 
 
 class Kept:
@@ -126,17 +140,29 @@ class Kept:
         begin, size = ctypes.c_void_p(), ctypes.c_size_t()
         status = library._open(text, len(text), ctypes.byref(self._program), ctypes.byref(begin), ctypes.byref(size))
         self.answer = library._taken(status, begin, size)
+        self.at, self._call = self._program.value, library._call_into
+        self._rooms: list[Room] = []    # one for each thread that called at the same time
 
-    def __bool__(self) -> bool:
-        return bool(self._program)
+    def call(self, budget: int, words: Sequence[str]) -> str | Answer:
+        """The value that a call prints, or the answer that refuses it.
 
-    def call(self, budget: int, words: Sequence[str]) -> Answer:
-        """The answer to a call. Other threads run meanwhile, but for those that call the same program."""
-        name, *given = encoded(words)
-        begin, size = ctypes.c_void_p(), ctypes.c_size_t()
-        status = self._library._call(self._program, budget, name, (ctypes.c_char_p * len(given))(*given), len(given),
-                                     ctypes.byref(begin), ctypes.byref(size))
-        return self._library._taken(status, begin, size)
+        Other threads run meanwhile, but for those that call the same program.
+        """
+        given = "\0".join(words).encode("utf-8", "surrogateescape")
+        if given.count(0) >= len(words):
+            raise WordsTooLong(NO_ZERO)
+        try:
+            room = self._rooms.pop()
+        except IndexError:
+            room = room_for(FIRST_ROOM)
+        answer, size, answer_at, size_at, most = room
+        status = self._call(self.at, budget, given, len(given), answer_at, most, size_at)
+        if size.value > most:
+            answer, size, answer_at, size_at, most = room_for(size.value)
+            status = self._call(self.at, budget, given, len(given), answer_at, most, size_at)
+        found: bytes = answer[:size.value]  # type: ignore[assignment]
+        self._rooms.append(room)
+        return Answer(status, found) if status else found.decode("utf-8", "replace").removesuffix("\n")
 
     def __del__(self) -> None:
         self._library._close(self._program)
@@ -157,11 +183,11 @@ class OpenHandle(TextHandle):
         """The answer of a command on the text."""
         return self._kept.answer if list(words) == ["types"] else super().ask(words)
 
-    def call(self, budget: str, words: Sequence[str]) -> Answer:
-        """The answer to one call."""
+    def call(self, budget: int, words: Sequence[str]) -> str | Answer:
+        """The value that one call prints, or the answer that refuses it."""
         kept = self._kept   # a thread that calls keeps it open
-        if kept and IS_BUDGET.fullmatch(budget):
-            return kept.call(int(budget), words)
+        if kept.at and 0 <= budget <= MOST_BUDGET:
+            return kept.call(budget, words)
         return super().call(budget, words)
 
     def close(self) -> None:

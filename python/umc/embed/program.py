@@ -5,17 +5,17 @@ from collections.abc import Iterable, Sequence
 from dataclasses import dataclass
 from decimal import Decimal
 from fractions import Fraction
-from itertools import repeat
+from functools import cached_property
 from typing import Any
 
 from umc import reports
 from umc.embed import quantity, refused
-from umc.embed.engines import Engine, Process, line_of
+from umc.embed.engines import Engine, Process
 from umc.embed.library import Library, find
-from umc.embed.quantity import Quantity
+from umc.embed.quantity import Quantity, value_of
 from umc.embed.refused import Refused
 from umc.embed.schemes import Scheme, schemes
-from umc.embed.texts_of import Step, ValueRefused, Writer, column_unit, exact_step, writer
+from umc.embed.texts_of import Step, ValueRefused, Writer, column_unit, every_writer, exact_step, writer, writers
 from umc.errors import InputError, UmError
 from umc.limits import NONE, Limits
 from umc.options import BUDGET
@@ -65,6 +65,9 @@ class Program:
         self._schemes = schemes(answer.output.decode())
         self._functions = {name: Function(self, scheme) for name, scheme in self._schemes.items()}
         self._ratio: "Program | None" = None
+        # Python finds these at once; the others are items alone.
+        self.__dict__.update({name: it for name, it in self._functions.items() if not hasattr(Program, name)
+                              and name not in self.__dict__})
 
     @classmethod
     def read(cls, path: str | os.PathLike[str], library: Iterable[str] = (), **how: Any) -> "Program":
@@ -115,23 +118,30 @@ class Program:
 
     def answers(self, name: str, columns: Sequence[list[str]]) -> list[Any]:
         """The values, or the refusals, of calls of a function with each row of columns of arguments, as texts."""
-        lines = self._handle.calls(str(self.budget), name, columns)
+        lines = self._handle.calls(self.budget, name, columns)
         if isinstance(lines, Answer):
             raise refused.of_call(lines, [], None)
         convert = self.convert
         return [self._refused(name, number, columns, line) if line.startswith(REFUSAL)
-                else quantity.value_of(line, convert) for number, line in enumerate(lines, 1)]
+                else value_of(line, convert) for number, line in enumerate(lines, 1)]
 
     def answer(self, name: str, arguments: Sequence[str]) -> str:
         """The printed value of a call of a function, whose arguments are texts."""
-        answer = self._handle.call(str(self.budget), [name, *arguments])
-        if answer.status == 0:
-            return line_of(answer)
-        found = refused.of_call(answer, list(arguments), self._schemes[name].text)
+        return self.said([name, *arguments])
+
+    def said(self, words: list[str]) -> str:
+        """The printed value of a call: the words are the function's name and the texts of its arguments."""
+        answer = self._handle.call(self.budget, words)
+        if isinstance(answer, str):
+            return answer
+        raise self._refusal(words, answer)
+
+    def _refusal(self, words: list[str], answer: Answer) -> Refused:
+        name, *arguments = words
+        found = refused.of_call(answer, arguments, self._schemes[name].text)
         if found.status in refused.TRAPS and self.engine.has("trace"):
-            words = [str(self.budget), name, *arguments]
-            found = refused.of_trap(self._handle, self._text, words, found)
-        raise found
+            found = refused.of_trap(self._handle, self._text, [str(self.budget), *words], found)
+        return found
 
     def _refused(self, name: str, row: int, columns: Sequence[list[str]], line: str) -> Refused:
         report = reports.parse(line)
@@ -177,7 +187,7 @@ class Function:
     def __repr__(self) -> str:
         return f"<{self.scheme}>"
 
-    @property
+    @cached_property
     def name(self) -> str:
         """The function's name."""
         return self.scheme.function
@@ -194,17 +204,12 @@ class Function:
 
         Raises `umc.Refused` if the program refuses the call, and `umc.ValueRefused` for a value that is no argument.
         """
-        return quantity.value_of(self.printed(*arguments, unit=unit, step=step), self.program.convert)
+        program = self.program
+        return value_of(program.said(_words(self.name, arguments, unit, step)), program.convert)
 
     def printed(self, *arguments: Any, unit: Units = None, step: Step | None = None) -> str:
         """The value of a call as the program prints it, as 381r125<m>."""
-        texts: list[str] = []
-        try:
-            for own, argument in zip(self._writers(arguments, unit, step), arguments):
-                texts.append(own.text(argument))
-        except ValueRefused as error:
-            raise ValueRefused(f"argument {len(texts) + 1}: {error.message}") from error
-        return self.program.answer(self.name, texts)
+        return self.program.said(_words(self.name, arguments, unit, step))
 
     def each(self, *columns: Iterable[Any], unit: Units = None, step: Step | None = None,
              keep_going: bool = False) -> list[Any]:
@@ -213,9 +218,8 @@ class Function:
         The first row that is refused is raised with its number in `row`. With `keep_going` a refusal stands in the
         place of the value.
         """
-        writers = self._writers(columns, unit, step)
-        texts = [own.texts(column, f"argument {number}, row")
-                 for number, (own, column) in enumerate(zip(writers, columns), 1)]
+        texts = [_of_column(own, column).texts(column, f"argument {number}, row")
+                 for number, (own, column) in enumerate(zip(_writers(columns, unit, step), columns), 1)]
         if len({len(column) for column in texts}) > 1:
             raise ValueRefused(f"the columns have {', '.join(str(len(column)) for column in texts)} rows")
         found = self.program.answers(self.name, texts)
@@ -224,16 +228,34 @@ class Function:
             raise first
         return found
 
-    def _writers(self, arguments: Sequence[Any], unit: Units, step: Step | None) -> list[Writer]:
-        exact = None if step is None else exact_step(step)
-        if unit is None or isinstance(unit, str):
-            units: Iterable[str | None] = repeat(unit)
-        elif len(unit) == len(arguments):
-            units = unit
-        else:
-            raise ValueRefused(f"unit has {len(unit)} units for {len(arguments)} arguments")
-        return [writer(own if own is not None or type(argument) in PLAIN else column_unit(argument), exact)
-                for own, argument in zip(units, arguments)]
-
 
 PLAIN = frozenset([int, str, Fraction, Decimal, Quantity, tuple, list])   # these aren't columns of a data frame
+
+
+def _words(name: str, arguments: Sequence[Any], unit: Units, step: Step | None) -> list[str]:
+    """The name of a function and the texts of its arguments."""
+    own_writers, words = _writers(arguments, unit, step), [name]
+    try:
+        for own, argument in zip(own_writers, arguments):
+            if type(argument) is int:   # the most common first
+                words.append(f"{argument}{own.ending}")
+            else:
+                words.append(_of_column(own, argument).text(argument))
+    except ValueRefused as error:
+        raise ValueRefused(f"argument {len(words)}: {error.message}") from error
+    return words
+
+
+def _writers(arguments: Sequence[Any], unit: Units, step: Step | None) -> Iterable[Writer]:
+    """A writer for each argument."""
+    exact = None if step is None else exact_step(step)
+    if unit is None or isinstance(unit, str):
+        return every_writer(unit, exact)
+    if len(unit) != len(arguments):
+        raise ValueRefused(f"unit has {len(unit)} units for {len(arguments)} arguments")
+    return writers(tuple(unit), exact)
+
+
+def _of_column(own: Writer, argument: Any) -> Writer:
+    """The writer of a column has the unit of its header, if none is named."""
+    return own if own.unit is not None or type(argument) in PLAIN else writer(column_unit(argument), own.step)

@@ -10,9 +10,8 @@ from umc import cells, printed
 from umc.errors import UmError
 
 OPEN = "_"
+HAS_TWO_PARTS = getattr(Fraction, "__slots__", None) == ("_numerator", "_denominator")  # so it is up to Python 3.13
 Conversion = Callable[["Quantity", str], "Quantity"]
-# A number as `run` prints it: what is over the line, what is under it if it isn't 1, and its unit if it isn't 1.
-NUMBER = re.compile(r"(-?[0-9]+)(?:r([0-9]+))?(?:<([^>]*)>)?")
 
 
 def exact_text(number: Fraction) -> str:
@@ -104,8 +103,22 @@ def plain(tree: Any) -> Any:
 
 def value_of(line: str, convert: Conversion) -> Any:
     """A printed value: a Quantity, a truth value, a list, or a dictionary of a record's fields."""
-    found = NUMBER.fullmatch(line)  # most values are a number, which this finds soonest
-    return quantity_of(found, convert) if found else plain(printed.value(line, reader(convert)))
+    number, _, unit = line.partition("<")
+    above, sign, below = number.partition("r")
+    try:    # most values are a number, which this finds soonest
+        magnitude = in_lowest_terms(int(above), int(below) if sign else 1)
+    except ValueError:
+        return plain(printed.value(line, reader(convert)))
+    return quantity_of(magnitude, unit[:-1], convert)
+
+
+def in_lowest_terms(above: int, below: int) -> Fraction:
+    """The fraction of two numbers without a common divisor, which isn't looked for again."""
+    if not HAS_TWO_PARTS:
+        return Fraction(above, below)
+    made = object.__new__(Fraction)
+    made._numerator, made._denominator = above, below   # type: ignore[attr-defined]
+    return made
 
 
 def reader(convert: Conversion) -> Callable[[re.Match[str]], Any]:
@@ -113,12 +126,11 @@ def reader(convert: Conversion) -> Callable[[re.Match[str]], Any]:
     return lambda found: Quantity(printed.fraction(found["number"]), found["unit"] or "", False, None, convert)
 
 
-def quantity_of(found: re.Match[str], convert: Conversion) -> Quantity:
-    """The quantity of a printed number. It is what the constructor makes, in a third of the constructor's time."""
-    above, below, unit = found.groups("")
+def quantity_of(magnitude: Fraction, unit: str, convert: Conversion) -> Quantity:
+    """The quantity of a program. It is what the constructor makes, in a third of the constructor's time."""
     made = object.__new__(Quantity)
     parts = made.__dict__   # a frozen class has its other fields as they are declared
-    parts["magnitude"] = Fraction(int(above), int(below)) if below else Fraction(int(above))
+    parts["magnitude"] = magnitude
     parts["unit"] = unit
     parts["_convert"] = convert
     return made

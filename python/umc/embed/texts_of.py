@@ -6,10 +6,11 @@ Whether a text fits the function is for the program to say.
 import math
 import numbers
 from collections.abc import Iterable, Mapping
-from dataclasses import dataclass
+from dataclasses import dataclass, field
 from decimal import Decimal
 from fractions import Fraction
-from functools import cached_property, lru_cache
+from functools import lru_cache
+from itertools import repeat
 from typing import Any
 
 from umc import cells
@@ -46,11 +47,16 @@ class Writer:
 
     unit: str | None = None
     step: Fraction | None = None
+    ending: str = field(init=False)     # what stands after a number: its unit, as <kg>
+
+    def __post_init__(self) -> None:
+        named = self.unit is not None and self.unit.strip() not in WITHOUT_UNIT
+        object.__setattr__(self, "ending", f"<{self.unit}>" if named else "")
 
     def texts(self, values: Iterable[Any], one: str) -> list[str]:
         """The texts of many values. `one` names what each of them is, for a value that is refused."""
         texts: list[str] = []
-        unit, text, add = self._unit, self.text, texts.append
+        unit, text, add = self.ending, self.text, texts.append
         try:
             for value in values:
                 add(f"{value}{unit}" if type(value) is int else text(value))
@@ -62,9 +68,9 @@ class Writer:
         """The text of a value."""
         kind = type(value)
         if kind is int:  # the most common first
-            return f"{value}{self._unit}"
+            return f"{value}{self.ending}"
         if kind is Fraction:
-            return exact_text(value) + self._unit
+            return exact_text(value) + self.ending
         if kind is tuple or kind is list:
             return self._with(value[1]).text(value[0]) if _is_number_with_unit(value) else self._list(value)
         if isinstance(value, str):
@@ -94,11 +100,7 @@ class Writer:
         return writer(unit, self.step)
 
     def _number(self, value: Any) -> str:
-        return exact_text(self._exact(value)) + self._unit
-
-    @cached_property
-    def _unit(self) -> str:
-        return "" if self.unit is None or self.unit.strip() in WITHOUT_UNIT else f"<{self.unit}>"
+        return exact_text(self._exact(value)) + self.ending
 
     def _exact(self, value: Any) -> Fraction:
         if isinstance(value, numbers.Integral):
@@ -121,7 +123,7 @@ class Writer:
         if self.unit is None or text.rstrip().endswith(">") or text.strip() in cells.TRUTHS:
             return text
         try:
-            return cells.number_text(text.strip()) + self._unit
+            return cells.number_text(text.strip()) + self.ending
         except cells.CellError as error:
             raise ValueRefused(f"{error}, and unit={self.unit!r} is for numbers") from error
 
@@ -133,6 +135,18 @@ class Writer:
 def writer(unit: str | None, step: Fraction | None) -> Writer:
     """The writer with this unit and step: it is made once."""
     return Writer(unit, step)
+
+
+@lru_cache(maxsize=1000)
+def writers(units: tuple[str | None, ...], step: Fraction | None) -> tuple[Writer, ...]:
+    """A writer for each of these units."""
+    return tuple(writer(unit, step) for unit in units)
+
+
+@lru_cache(maxsize=1000)
+def every_writer(unit: str | None, step: Fraction | None) -> Iterable[Writer]:
+    """The same writer for all."""
+    return repeat(writer(unit, step))
 
 
 def column_unit(value: Any) -> str | None:

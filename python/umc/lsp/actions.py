@@ -6,6 +6,7 @@ from umc.lsp import facts
 from umc.lsp.analysis import Refusal
 from umc.lsp.diagnostics import diagnostics
 from umc.lsp.documents import Snapshot
+from umc.lsp.names import SPACES
 from umc.lsp.placed import Declaration
 from umc.lsp.positions import Json
 from umc.lsp.rename import replaced
@@ -117,8 +118,7 @@ def _alike(snapshot: Snapshot, token: Token) -> list[str]:
     """Names of the text that are like one, if the program names none."""
     sort = Kind.VARIABLE if token.kind is Kind.VARIABLE else Kind.NAME
     names = {name.text: None for name in snapshot.reading.names if name.token.kind is sort}
-    names |= {name: None for name in [*snapshot.reading.types, *snapshot.reading.functions, *snapshot.reading.fields]
-              if sort is Kind.NAME}
+    names |= {name.text: None for space in SPACES for name in snapshot.reading.all_known(space) if sort is Kind.NAME}
     return similar(token.text, list(names))
 
 

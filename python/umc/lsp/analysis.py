@@ -4,17 +4,16 @@ import threading
 from collections.abc import Callable, Sequence
 from dataclasses import dataclass, field
 from functools import cached_property
-from typing import Generic, TypeVar
 
 from umc import places, reports
 from umc.limits import Limits
+from umc.lsp.once import Once
 from umc.lsp.placed import Declaration
 from umc.lsp.positions import Lines
 from umc.lsp.reading import Reading
 from umc.program import Answer, Program
 from umc.reports import Report
 
-Value = TypeVar("Value")
 ROUNDS = 8
 # A line of `annot`: that of a function, or that of a part with its place.
 FUNCTION = re.compile(r"^([^ \n]+) : (.*)$", re.MULTILINE)
@@ -34,24 +33,6 @@ class Until(Limits):
     def check(self, began: float, held: int, answered: int) -> None:
         if self.event.is_set():
             raise Dropped
-
-
-class Once(Generic[Value]):
-    """A value that is made when it is first asked for, by one thread."""
-
-    def __init__(self, make: Callable[[], Value]):
-        self._make, self._lock = make, threading.Lock()
-        self._made: list[Value] = []
-
-    @property
-    def is_made(self) -> bool:
-        return bool(self._made)
-
-    def get(self) -> Value:
-        with self._lock:
-            if not self._made:
-                self._made.append(self._make())
-            return self._made[0]
 
 
 @dataclass(frozen=True)

@@ -19,6 +19,8 @@ DEBIAN = "/usr/bin/python3"
 NEEDED = "the language server needs Debian's package python3-pylsp-jsonrpc"
 # Readings are large trees that mostly stay, so that looking for garbage often only costs time.
 OBJECTS_BEFORE_COLLECTION = 100_000
+# While one thread reads a text, others start the program or take the next message: they don't wait for long.
+TURN_OF_A_THREAD = 0.0005
 
 
 def run(args: argparse.Namespace, front: Front) -> int:
@@ -38,6 +40,7 @@ def run(args: argparse.Namespace, front: Front) -> int:
     for number in signals.ENDING:
         signal.signal(number, _end)
     gc.set_threshold(OBJECTS_BEFORE_COLLECTION)
+    sys.setswitchinterval(TURN_OF_A_THREAD)
     sink, sys.stdout = sys.stdout.buffer, sys.stderr
     return Server(program, sys.stdin.buffer, sink, args.before).serve()
 

@@ -85,14 +85,13 @@ def names_at(snapshot: Snapshot, place: Place) -> list[Name]:
         own = [name for name in made.names if name.sort is Sort.UNIT]
         return own + [name for name in reading.measures if _is_before(name, made)]
     if in_type(place):
-        records = [name for name in reading.types.values() if name.sort is Sort.RECORD]
-        return [name for name in records if _is_before(name, made)]
+        return [name for name in reading.all_known("type") if name.sort is Sort.RECORD and _is_before(name, made)]
     if made.sort is not Sort.FUNCTION or made.equals is None or place.start <= made.head_end:
         return []
-    fields = list(reading.fields.values()) if place.last() == "{" else []
+    fields = reading.all_known("field") if place.last() == "{" else []
     local = [name for name in made.names if name.sort.is_variable and name.known_from <= place.start
              and (place.start <= name.known_to or name.known_to >= made.end)]
-    known = [name for name in reading.functions.values()
+    known = [name for name in reading.all_known("function")
              if _is_before(name, made) or name.declaration is made and name.known_from < made.end]
     hidden = {name.text: name for name in [*known, *local]}
     return fields + [name for name in reversed(hidden.values())]
@@ -113,7 +112,7 @@ def in_unit(snapshot: Snapshot, place: Place) -> bool:
         return False
     opening, before = place.before[at], place.before[at - 1]
     if opening.text == "<":
-        record = snapshot.reading.types.get(before.text)
+        record = snapshot.reading.known("type", before.text)
         return before.text == "num" or before.kind is Kind.NUMBER and before.end == opening.start or (
             record is not None and record.sort is Sort.RECORD and in_type(Place(0, 0, place.before[:at - 1])))
     return opening.text == "=" and at >= 3 and [token.text for token in place.before[at - 3:at - 1]] == ["]", "type"]
@@ -134,8 +133,8 @@ def _fields(snapshot: Snapshot, known: Known, place: Place) -> list[Name]:
     record = None
     if owner and owner.sort is not Sort.FUNCTION:
         kind = facts.of_name(known, owner) or ""
-        record = reading.types.get(kind.partition("<")[0])
-    every = list(reading.fields.values())
+        record = reading.known("type", kind.partition("<")[0])
+    every = reading.all_known("field")
     return [name for name in every if name.declaration.name and name.declaration.name.text == record.text] if (
         record and record.sort is Sort.RECORD and "list" not in kind) else every
 

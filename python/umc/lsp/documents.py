@@ -4,9 +4,10 @@ from typing import Any
 from urllib.parse import unquote, urlsplit
 
 from umc.lsp.abbreviations import Abbreviations
-from umc.lsp.analysis import Analysis, Once
+from umc.lsp.analysis import Analysis
 from umc.lsp.kept import Kept
 from umc.lsp.library import Libraries
+from umc.lsp.once import Once
 from umc.lsp.positions import Json, Lines, changed
 from umc.lsp.reading import Reading
 from umc.program import Program

@@ -3,23 +3,23 @@
 A line is known by its letters, and so is a declaration. So after a change only the lines and the declarations that it
 touches are read anew, wherever the others stand then.
 """
-from collections.abc import Callable
 from dataclasses import dataclass
 
-from umc.lsp.piece import Piece
-from umc.lsp.tokens import MARK, Kind, Token, split_after
+from umc.lsp.section import Section
+from umc.lsp.tokens import texts
 
 # What begins a declaration.
 STARTS = frozenset(["[<", "type", "let"])
+SPACE = " \t\r"
 
 
 @dataclass(frozen=True, slots=True)
 class Row:
-    """The tokens of a line, counted from its first character. `starts` are the numbers of those in STARTS."""
+    """The texts of the tokens of a line. `starts` are the numbers of those in STARTS."""
 
-    every: list[Token]
-    tokens: list[Token]
+    texts: list[str]
     starts: list[int]
+    is_indented: bool
 
 
 class Kept:
@@ -27,31 +27,29 @@ class Kept:
 
     def __init__(self) -> None:
         self._rows: dict[str, Row] = {}
-        self._pieces: dict[str, Piece] = {}
+        self._sections: dict[str, Section] = {}
 
-    def rows(self, text: str) -> list[Row]:
-        """The lines of a text as the program counts them."""
+    def rows(self, lines: list[str]) -> list[Row]:
+        """The lines of a text, as the program counts them."""
         earlier, now = self._rows, dict[str, Row]()
-        lines = text.split("\n")
         for line in lines:
             if line not in now:
-                now[line] = earlier.get(line) or _row(split_after(line, 0))
+                now[line] = earlier.get(line) or _row(line)
         self._rows = now
-        found = [now[line] for line in lines]
-        if text.startswith(MARK):
-            found[0] = _row(split_after(lines[0], 1))
-        return found
+        return [now[line] for line in lines]
 
-    def pieces(self, texts: list[str], tokens: Callable[[int], list[Token]]) -> list[Piece]:
-        """The pieces with these texts. `tokens` gives those of the piece with a number, counted from its beginning."""
-        earlier, now = self._pieces, dict[str, Piece]()
-        for at, text in enumerate(texts):
+    def sections(self, found: list[str]) -> list[Section]:
+        """The sections of a text with these letters."""
+        earlier, now = self._sections, dict[str, Section]()
+        for text in found:
             if text not in now:
-                now[text] = earlier.get(text) or Piece(text, tokens(at))
-        self._pieces = now
-        return [now[text] for text in texts]
+                now[text] = earlier.get(text) or Section(text)
+        self._sections = now
+        return [now[text] for text in found]
 
 
-def _row(every: list[Token]) -> Row:
-    tokens = [token for token in every if token.kind is not Kind.COMMENT]
-    return Row(every, tokens, [at for at, token in enumerate(tokens) if token.text in STARTS])
+def _row(line: str) -> Row:
+    found = texts(line)
+    starts = [at for at, text in enumerate(found) if text in STARTS] if "let" in line or "type" in line or (
+        "[<" in line) else []
+    return Row(found, starts, line[:1] in SPACE)

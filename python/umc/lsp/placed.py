@@ -5,6 +5,7 @@ from typing import TYPE_CHECKING
 
 from umc.lsp.names import Annotation, Bound, Hole, Parameter, Sort
 from umc.lsp.piece import Piece
+from umc.lsp.section import Section
 from umc.lsp.tokens import Token, moved
 
 if TYPE_CHECKING:
@@ -14,10 +15,21 @@ if TYPE_CHECKING:
 class Declaration:
     """A declaration of a text, from its first token to its last."""
 
-    def __init__(self, piece: Piece, start: int, number: int, reading: "Reading"):
-        self.piece, self.start, self.number, self.reading = piece, start, number, reading
-        self.end = start + piece.end
-        self.sort = piece.sort
+    def __init__(self, section: Section, start: int, number: int, reading: "Reading"):
+        self.section, self.start, self.number, self.reading = section, start, number, reading
+
+    @property
+    def piece(self) -> Piece:
+        """What is read in it."""
+        return self.section.piece
+
+    @property
+    def end(self) -> int:
+        return self.start + self.section.end
+
+    @property
+    def sort(self) -> Sort | None:
+        return self.piece.sort
 
     @property
     def source(self) -> str:

@@ -12,75 +12,73 @@ from umc.lsp.cut import beginnings
 from umc.lsp.kept import Kept
 from umc.lsp.names import SPACES, Bound, Space
 from umc.lsp.placed import Declaration, Name
-from umc.lsp.tokens import MARK, Kind, Token, moved
+from umc.lsp.tokens import MARK, Kind, Token, comment, moved, split_after, start_of
 
 
 class Reading:
-    """A version of a text as its tokens tell it. `before` are the readings of the files that stand before it."""
+    """A version of a text as its tokens tell it. `before` are the readings of the files that stand before it.
+
+    It finds where the declarations begin and what each declares for the whole text. What stands inside of one is read
+    when something there is asked.
+    """
 
     def __init__(self, text: str, before: Sequence["Reading"] = (), source: str = "", kept: Kept | None = None):
         self.source = source
         kept = kept or Kept()
-        self._rows = kept.rows(text)
-        self._row_starts = [0, *accumulate(len(line) + 1 for line in text.split("\n"))][:-1]
         begun = int(text.startswith(MARK))
-        starts = [self._row_starts[row] + self._rows[row].tokens[at].start for row, at in beginnings(self._rows)]
-        # The comments before the first declaration are a piece as well.
+        self._lines = text.removeprefix(MARK).split("\n")
+        self._row_starts = [*accumulate((len(line) + 1 for line in self._lines[:-1]), initial=begun)]
+        starts = [self._row_starts[row] + start_of(self._lines[row], at)
+                  for row, at in beginnings(kept.rows(self._lines))]
+        # The comments before the first declaration are a section as well.
         self._bases = [begun, *starts]
-        ends = [*starts, len(text)]
-        self._pieces = kept.pieces([text[start:end] for start, end in zip(self._bases, ends)],
-                                   lambda at: self._tokens_of(self._bases[at], ends[at]))
-        self.head = Declaration(self._pieces[0], begun, -1, self)
-        self.declarations = [Declaration(piece, start, at, self)
-                             for at, (piece, start) in enumerate(zip(self._pieces[1:], starts))]
-        self.known: dict[Space, dict[str, Name]] = {space: {} for space in SPACES}
+        sections = kept.sections([text[start:end] for start, end in zip(self._bases, [*starts, len(text)])])
+        self.head = Declaration(sections[0], begun, -1, self)
+        self.declarations = [Declaration(section, start, at, self)
+                             for at, (section, start) in enumerate(zip(sections[1:], starts))]
+        self._declaring: dict[Space, dict[str, Declaration]] = {space: {} for space in SPACES}
         for earlier in before:
             self._know(earlier.declarations)
         self._know(self.declarations)
+        self._found: dict[tuple[Space, str], Name] = {}
 
     def _know(self, declarations: list[Declaration]) -> None:
         """Knows what is declared here. The first declaration of a name stays."""
         for made in declarations:
-            for space, bound in made.piece.declared:
-                if bound.text not in self.known[space]:
-                    self.known[space][bound.text] = Name(bound, made, self)
+            for space, text in made.section.declares:
+                self._declaring[space].setdefault(text, made)
 
-    @property
-    def types(self) -> dict[str, Name]:
-        """The base measures, abbreviations and records, those of files before the text among them."""
-        return self.known["type"]
+    def known(self, space: Space, text: str) -> Name | None:
+        """The first name with these letters that is declared for the whole text."""
+        name = self._found.get((space, text))
+        if name is None and (made := self._declaring[space].get(text)):
+            bound = next(bound for its_space, bound in made.piece.declared if its_space == space and bound.text == text)
+            name = self._found.setdefault((space, text), Name(bound, made, self))
+        return name
 
-    @property
-    def functions(self) -> dict[str, Name]:
-        return self.known["function"]
-
-    @property
-    def fields(self) -> dict[str, Name]:
-        return self.known["field"]
+    def all_known(self, space: Space) -> list[Name]:
+        """The names that are declared for the whole text, those of files before it among them, in order."""
+        return [name for text in self._declaring[space] if (name := self.known(space, text))]
 
     @property
     def measures(self) -> list[Name]:
         """The base measures and abbreviations in order."""
-        return [name for name in self.types.values() if name.sort.is_measure]
+        return [name for name in self.all_known("type") if name.sort.is_measure]
 
     # ---- tokens
 
-    def _tokens_of(self, start: int, end: int) -> list[Token]:
-        """The tokens from one offset up to another, comments among them, counted from the first offset."""
-        found: list[Token] = []
-        for row in self._rows_in(start, end):
-            found += moved(self._rows[row].every, self._row_starts[row] - start)
-        return [token for token in found if 0 <= token.start < end - start]
-
     def _rows_in(self, start: int, end: int) -> range:
         """The lines between two offsets, also in part."""
-        return range(max(bisect_right(self._row_starts, start) - 1, 0), bisect_left(self._row_starts, end))
+        return range(self._row_at(start), bisect_left(self._row_starts, end))
+
+    def _row_at(self, offset: int) -> int:
+        return max(bisect_right(self._row_starts, offset) - 1, 0)
 
     def every(self, start: int, end: int) -> list[Token]:
         """The tokens that stand between two offsets, also in part, comments among them."""
         found: list[Token] = []
         for row in self._rows_in(start, end):
-            found += moved(self._rows[row].every, self._row_starts[row])
+            found += moved(split_after(self._lines[row], 0), self._row_starts[row])
         return [token for token in found if token.start < end and start < token.end]
 
     def tokens(self, start: int, end: int) -> list[Token]:
@@ -90,14 +88,14 @@ class Reading:
     @property
     def comments(self) -> list[Token]:
         """The comments of the text in order."""
-        return [row.every[-1].moved(base) for row, base in zip(self._rows, self._row_starts)
-                if len(row.every) > len(row.tokens)]
+        found = ((comment(line), start) for line, start in zip(self._lines, self._row_starts))
+        return [token.moved(start) for token, start in found if token]
 
     def is_in_comment(self, offset: int) -> bool:
         """Whether a comment begins before an offset and goes on to it or further."""
-        row = bisect_right(self._row_starts, offset) - 1
-        at = offset - self._row_starts[row]
-        return any(token.kind is Kind.COMMENT and token.start < at <= token.end for token in self._rows[row].every)
+        row = self._row_at(offset)
+        token = comment(self._lines[row])
+        return token is not None and token.start < offset - self._row_starts[row] <= token.end
 
     def token_at(self, offset: int) -> Token | None:
         """The token that holds the character at an offset; otherwise the name, number or word that ends there."""
@@ -132,7 +130,7 @@ class Reading:
 
     def resolved(self, made: Declaration, space: Space, text: str) -> Name | None:
         """The name of the whole text that a declaration means; None if none is declared before it."""
-        name = self.known[space].get(text)
+        name = self.known(space, text)
         if name is None or not name.is_of_text or name.declaration.number < made.number:
             return name
         return name if name.declaration is made and made.piece.is_recursive else None
@@ -142,12 +140,12 @@ class Reading:
         space = name.sort.space
         if space is None:
             return moved(name.bound.uses, name.declaration.start)
-        first = self.known[space].get(name.text)
+        first = self.known(space, name.text)
         if first is None or first.bound is not name.bound or first.declaration is not name.declaration:
             return []
         found: list[Token] = []
         for made in self.declarations[name.declaration.number if name.is_of_text else 0:]:
-            used = made.piece.used.get((space, name.text))
+            used = made.piece.used.get((space, name.text)) if name.text in made.section.text else None
             if used and self.resolved(made, space, name.text):
                 found += moved(used, made.start)
         return found

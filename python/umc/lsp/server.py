@@ -1,6 +1,7 @@
 """The server: it reads messages, hands each to what answers it, and drops what a newer text makes useless."""
 import logging
 import threading
+import time
 from collections.abc import Callable
 from functools import partial
 from typing import Any, BinaryIO
@@ -20,6 +21,7 @@ from umc.program import Program
 log = logging.getLogger(__name__)
 Answer = Callable[[Snapshot, Json], Any]
 WORKERS = 4
+PAUSE = 0.0005
 ERROR = 1
 
 
@@ -36,13 +38,16 @@ class Code:
 
 
 class Server:
-    """Answers one client until it ends the session. `status` is then the exit status."""
+    """Answers one client until it ends the session. `status` is then the exit status.
+
+    `requests` are those about texts that aren't answered yet, each with what tells that the client took it back.
+    """
 
     def __init__(self, program: Program, source: BinaryIO, sink: BinaryIO, before: list[str]):
         self.workspace = Workspace(program, before)
         self.status = 1
+        self.requests: dict[Any, threading.Event] = {}
         self._started = self._ending = False
-        self._cancelled: dict[Any, threading.Event] = {}
         self._request: Any = None
         self._reader = JsonRpcStreamReader(source)
         self._writer = JsonRpcStreamWriter(sink)
@@ -61,7 +66,7 @@ class Server:
         if not isinstance(message, dict):
             return
         if message.get("method") == "$/cancelRequest":
-            event = self._cancelled.get((message.get("params") or {}).get("id"))
+            event = self.requests.get((message.get("params") or {}).get("id"))
             if event:
                 event.set()
             return
@@ -139,12 +144,20 @@ class Server:
         return look
 
     def _prepare(self, snapshot: Snapshot) -> None:
-        """Makes what the next requests need."""
+        """Makes what the next requests need, a declaration at a time. What is asked meanwhile goes first."""
         try:
             if snapshot.reading.declarations:
                 snapshot.analysis.known
         except (Dropped, UmError):
             return
+        for made in snapshot.reading.declarations:
+            while self.requests and not snapshot.stale.is_set():
+                time.sleep(PAUSE)
+            if snapshot.stale.is_set():
+                return
+            if not made.section.is_read:
+                made.piece
+                time.sleep(PAUSE)
 
     # ---- requests
 
@@ -157,19 +170,19 @@ class Server:
             raise JsonRpcException("the request names no document", Code.INVALID_PARAMS) from fault
         if snapshot is None:
             raise JsonRpcException("the document isn't open", Code.INVALID_PARAMS)
-        self._cancelled[request] = cancelled
+        self.requests[request] = cancelled
         return partial(self._carry_out, answer, snapshot, params, request)
 
     def _carry_out(self, answer: Answer, snapshot: Snapshot, params: Json, request: Any) -> Any:
         """Answers a request unless the client takes it back."""
-        cancelled = self._cancelled[request]
+        cancelled = self.requests[request]
         try:
             result = None if cancelled.is_set() else self._answer(answer, snapshot, params)
             if cancelled.is_set():
                 raise JsonRpcException("the client took the request back", Code.CANCELLED)
             return result
         finally:
-            self._cancelled.pop(request, None)
+            self.requests.pop(request, None)
 
     def _answer(self, answer: Answer, snapshot: Snapshot, params: Json) -> Any:
         """Answers a request unless a newer text comes."""

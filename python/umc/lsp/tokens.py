@@ -4,20 +4,19 @@ No token goes on in the next line, so that a line has the same tokens in every t
 """
 import re
 from enum import Enum
+from string import ascii_letters, digits
 from typing import NamedTuple
 
 WORDS = frozenset("let rec in if then else match with type true false not num bool list Measure pown".split())
 MARK = "\ufeff"
 LETTERS = r"A-Za-z_\u0080-\U0010ffff"
 WIDE = r"\u0080-\U0010ffff"
-TOKEN = re.compile(rf"""(?P<space>[ \t\r\n]+)
-    |(?P<name>[A-Za-z_][A-Za-z0-9_]*(?![{WIDE}]))
-    |(?P<sign>\[<|<=|<>|->|::|\|\||&&|[][(){{}}<>=+\-*^;:,.|]|/(?!/))
-    |(?P<number>[0-9]+(?:[.r][0-9]+)?)
-    |(?P<comment>//[^\n]*)
-    |(?P<variable>'[A-Za-z_][A-Za-z0-9_]*(?![{WIDE}]))
-    |(?P<wide>'?[{LETTERS}][{LETTERS}0-9]*)
-    |(?P<bad>.)""", re.VERBOSE)
+TOKEN = re.compile(rf"""[A-Za-z_][A-Za-z0-9_]*+(?![{WIDE}])
+    |\[<|<=|<>|->|::|\|\||&&|//[^\n]*
+    |[0-9]+(?:[.r][0-9]+)?
+    |'[A-Za-z_][A-Za-z0-9_]*+(?![{WIDE}])
+    |'?[{LETTERS}][{LETTERS}0-9]*
+    |[^ \t\r\n]""", re.VERBOSE)
 
 
 class Kind(Enum):
@@ -35,7 +34,10 @@ class Kind(Enum):
     BAD = "bad"
 
 
-KINDS = {kind.value: kind for kind in Kind}
+SIGNS = "[< <= <> -> :: || && [ ] ( ) { } < > = + - * ^ ; : , . | /".split()
+OF_TEXT = {"_": Kind.HOLE, **dict.fromkeys(WORDS, Kind.WORD), **dict.fromkeys(SIGNS, Kind.SIGN), "'": Kind.BAD}
+OF_FIRST = {**dict.fromkeys(ascii_letters + "_", Kind.NAME), **dict.fromkeys(digits, Kind.NUMBER),
+            "'": Kind.VARIABLE, "/": Kind.COMMENT}
 
 
 class Token(NamedTuple):
@@ -65,9 +67,45 @@ def split_after(text: str, count: int) -> list[Token]:
     return found
 
 
+def texts(line: str) -> list[str]:
+    """The texts of the tokens of a line, without its comment."""
+    if not line.isascii():
+        return [token.text for token in split_after(line, 0) if token.kind is not Kind.COMMENT]
+    found: list[str] = TOKEN.findall(line)
+    if found and found[-1].startswith("//"):
+        found.pop()
+    return found
+
+
+def comment(line: str) -> Token | None:
+    """The comment of a line."""
+    at = line.find("//")
+    return Token(Kind.COMMENT, line[at:].rstrip("\r"), at, len(line.rstrip("\r"))) if at >= 0 else None
+
+
+def end_of(text: str) -> int:
+    """Where the last token of a text ends, comments left out; 0 if there is none."""
+    end = len(text)
+    while end > 0:
+        start = text.rfind("\n", 0, end) + 1
+        tokens = text[start:end].partition("//")[0].rstrip(" \t\r")
+        if tokens:
+            return start + len(tokens)
+        end = start - 1
+    return 0
+
+
+def start_of(line: str, number: int) -> int:
+    """Where a token of a line begins, by its number."""
+    if number == 0:
+        return len(line) - len(line.lstrip(" \t\r"))
+    return split_after(line, 0)[number].start
+
+
 def moved(tokens: list[Token], by: int) -> list[Token]:
     """Tokens with the offsets that they have if so many characters stand before them."""
-    return [Token(kind, text, start + by, end + by) for kind, text, start, end in tokens]
+    make = tuple.__new__
+    return [make(Token, (kind, text, start + by, end + by)) for kind, text, start, end in tokens]
 
 
 def first(text: str, at: int) -> Token | None:
@@ -93,22 +131,19 @@ def last(text: str) -> Token | None:
 
 def _split_from(text: str, at: int, found: list[Token]) -> int | None:
     """Goes on at a place up to the first token that ends earlier than its characters beyond ASCII let it seem."""
-    take, kinds, words = found.append, KINDS, WORDS
+    take, of_text, of_first, make = found.append, OF_TEXT.get, OF_FIRST.get, tuple.__new__
     for match in TOKEN.finditer(text, at):
-        kind, piece, start = match.lastgroup, match[0], match.start()
-        if kind == "space":
-            continue
-        if kind == "name":
-            kind = "word" if piece in words else "hole" if piece == "_" else "name"
-        elif kind == "comment":
+        piece, start = match[0], match.start()
+        kind = of_text(piece) or of_first(piece[0], Kind.BAD)
+        if kind is Kind.COMMENT:
             piece = piece.rstrip("\r")
-        elif kind == "wide":
+        elif not piece.isascii():
             wide = _wide(piece, start)
             take(wide)
             if wide.end < match.end():
                 return wide.end
             continue
-        take(Token(kinds[kind], piece, start, start + len(piece)))  # type: ignore[index]
+        take(make(Token, (kind, piece, start, start + len(piece))))
     return None
 
 
