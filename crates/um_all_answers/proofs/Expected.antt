@@ -61,7 +61,7 @@ module _ (decided : ProgramsAreDecided) (p : Place) where
   is_expected word.Whole = both (if_so fraction_stands power) two_stands
   is_expected word.One =
       as_well (both (fails power) (both (fails fraction_stands) (both (fails two_stands) one_stands)))
-      (λ (not_power, (no_fraction, (not_two, one))). (not_power, no_fraction, not_two, one)) (λ (not_power, no_fraction, not_two, one). (not_power, (no_fraction, (not_two, one))))
+      (λ h. (h.0, h.1.0, h.1.1.0, h.1.1.1)) (λ h. (h.0, (h.1, (h.2, h.3))))
   is_expected (word.Keyword k) = can_stand (kind.Word k)
   is_expected word.Operator = operators_stand
   is_expected (word.Sign s) = both (if_so operators_stand (is_test (is_operator s) false)) (can_stand (kind.Sign s))

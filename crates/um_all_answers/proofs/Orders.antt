@@ -12,12 +12,13 @@ use Rattle.um_call_answers.specs.declared.way.Way.TheVariants as way
 use Rattle.um_explain_answers.specs.ExplainAnswer.{ExplainAnswer}
 use Rattle.um_each_answer.specs.Answered.{HasAnswer}
 use Rattle.um_each_answer.specs.Laws.{EachTextHasAnswers, EachTextIsRescaled, EachTextIsConformed}
+use Rattle.um_text_images.specs.Laws.{EachTextHasImage}
 use Rattle.um_each_call.specs.Laws.{CallsHaveAnswers, TracesHaveAnswers, TwinsHaveAnswers, UnitWordsAreDecided, DisplaysHaveAnswers, SourcesHaveAnswers, GeneratedProgramsHaveAnswers, ImagesHaveAnswers}
 use Rattle.um_tool.specs.Asked.{called, held_name, signature_text, rescale_sizes, twin_sizes, called_twice, shown_units, called_shown}
 use Rattle.um_tool.specs.Answer.{IsUsageReply, ByOrder, Answer}
 use Rattle.um_all_answers.specs.Laws.{is_covered, EachIsAnswered}
 
-module _ (texts : EachTextHasAnswers) (explained : (text : List ℕ) → HasAnswer ExplainAnswer text) (rescaled : EachTextIsRescaled) (conformed : EachTextIsConformed) (calls : CallsHaveAnswers) (traces : TracesHaveAnswers) (twins : TwinsHaveAnswers) (unit_words : UnitWordsAreDecided) (displays : DisplaysHaveAnswers)
+module _ (texts : EachTextHasAnswers) (explained : (text : List ℕ) → HasAnswer ExplainAnswer text) (rescaled : EachTextIsRescaled) (conformed : EachTextIsConformed) (image : EachTextHasImage) (calls : CallsHaveAnswers) (traces : TracesHaveAnswers) (twins : TwinsHaveAnswers) (unit_words : UnitWordsAreDecided) (displays : DisplaysHaveAnswers)
     (sources : SourcesHaveAnswers) (generated : GeneratedProgramsHaveAnswers) (images : ImagesHaveAnswers) (words : List (List ℕ)) (bytes : List ℕ) (small : All (λ (b : ℕ). b < 256) bytes) where
   show_answered : (digits budget : ℕ) → ((parts : List PartSyntax) × IsUnitWord (shown_units words) parts) ⊎ ((parts : List PartSyntax) → IsUnitWord (shown_units words) parts → ⊥)
       → HasAnswer (ByOrder (Show digits budget) words) bytes
@@ -43,7 +44,7 @@ module _ (texts : EachTextHasAnswers) (explained : (text : List ℕ) → HasAnsw
   order_answered Explain e covered = explained bytes
   order_answered Conform e covered = let many = words_of_order words Conform e in conformed (held_name words) (signature_text words) bytes (short_words words Conform e 2 [] (omega (arith, many)))
   order_answered Prove e covered = absurd (cc covered)
-  order_answered Image e covered = absurd (cc covered)
+  order_answered Image e covered = image bytes
   order_answered (Exec budget) e covered = images (called budget words) bytes small
 
   abbrev Asked : Option Order → List ℕ → Status → Type 0
@@ -56,6 +57,6 @@ module _ (texts : EachTextHasAnswers) (explained : (text : List ℕ) → HasAnsw
   by_order covered (Some order) e =
       let (text, status, says) = order_answered order e (covered order e) in (text, status, subst (λ (o : Option Order). Asked o text status) (sym e) says)
 
-pub each_is_answered : EachTextHasAnswers → ((text : List ℕ) → HasAnswer ExplainAnswer text) → EachTextIsRescaled → EachTextIsConformed → CallsHaveAnswers → TracesHaveAnswers → TwinsHaveAnswers → UnitWordsAreDecided → DisplaysHaveAnswers → SourcesHaveAnswers → GeneratedProgramsHaveAnswers → ImagesHaveAnswers → EachIsAnswered
-each_is_answered texts explained rescaled conformed calls traces twins unit_words displays sources generated images words bytes small covered =
-    by_order texts explained rescaled conformed calls traces twins unit_words displays sources generated images words bytes small covered (order_of words) refl
+pub each_is_answered : EachTextHasAnswers → ((text : List ℕ) → HasAnswer ExplainAnswer text) → EachTextIsRescaled → EachTextIsConformed → EachTextHasImage → CallsHaveAnswers → TracesHaveAnswers → TwinsHaveAnswers → UnitWordsAreDecided → DisplaysHaveAnswers → SourcesHaveAnswers → GeneratedProgramsHaveAnswers → ImagesHaveAnswers → EachIsAnswered
+each_is_answered texts explained rescaled conformed image calls traces twins unit_words displays sources generated images words bytes small covered =
+    by_order texts explained rescaled conformed image calls traces twins unit_words displays sources generated images words bytes small covered (order_of words) refl

@@ -2,15 +2,14 @@
 -- Source: this project's own.
 use Rattle.std.specs.Prelude.{◌≡◌, ◌<◌, ℕ, All, Bool, true, false, IsTrue, List, Some}
 use Rattle.um_orders.specs.declared.order.Order.{Order}
-use Rattle.um_orders.specs.declared.order.Order.TheVariants.{Prove, Image}
+use Rattle.um_orders.specs.declared.order.Order.TheVariants.{Prove}
 use Rattle.um_orders.specs.Orders.{order_of}
 use Rattle.um_each_answer.specs.Answered.{HasAnswer}
 use Rattle.um_tool.specs.Answer.{Answer}
 
--- the orders of which it is proved: all but these two
+-- the orders of which it is proved: all but this one
 abbrev pub is_covered : Order → Bool
 is_covered Prove = false
-is_covered Image = false
 is_covered order = true
 
 -- The words have an answer about the bytes, each below 256, if they name such an order or none.

@@ -2,7 +2,7 @@
 ghost use Rattle.um_all_answers.specs.Laws.{EachIsAnswered};
 
 /// All words have an answer other than want of memory about all bytes, if they name no order, or one other than
-/// `prove` and `image`, of which it isn't proved.
+/// `prove`, of which it isn't proved.
 pub fn each_is_answered()
     ensures { EachIsAnswered }
 {
@@ -11,5 +11,6 @@ pub fn each_is_answered()
     um_infer::laws::stops();
     um_each_reason::laws::refusals_have_reasons();
     um_each_answer::laws::answers_exist();
+    um_text_images::laws::images_are_written();
     um_each_call::laws::calls_are_answered();
 }

@@ -64,7 +64,7 @@ few_chars [] = omega arith
 few_chars (b ∷ bytes) = let few = after_few (continuation_len b) (lead_bits b) bytes in omega (arith, few)
 
 -- the types that were read before the last
-before : SignatureState → ℕ
+abbrev before : SignatureState → ℕ
 before (InType earlier type) = length earlier
 before NoSignature = 0
 
@@ -141,7 +141,7 @@ is_nothing (InType earlier type) = inr (λ e. cc e)
 kept_type : TypeTree → Ty
 kept_type bool_type = Bool-type
 kept_type (num_type u) = Num-type u
-kept_type (list_type t) = List-type null_ptr (kept_type t)
+kept_type (list_type t) = List-type (record { ptr = null_ptr; alloc = record { memory = record { seal = tt } }; value = tt }) (kept_type t)
 kept_type (record_type r us) = Rec-type r us
 
 kept_is : (t : TypeTree) → type_tree (kept_type t) ≡ t

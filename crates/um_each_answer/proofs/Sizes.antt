@@ -6,6 +6,7 @@ use Rattle.std.specs.Str.{bytes_eq}
 use Rattle.std.proofs.lemmas.Slice.Eq.{bytes_eq-Decides}
 use lib.Signed.{le_z_yes}
 use Rattle.um_frac.specs.declared.number.Frac.{Frac}
+use Rattle.um_frac.proofs.Gcd.{gcd-one}
 use Rattle.um_measures.specs.Known.{is_among}
 use Rattle.um_sizes.specs.declared.read.ScalesRefusal.TheVariants.{NoBaseUnit}
 use Rattle.um_sizes.specs.ScaleWords.{names_of, scales_in, is_scales}
@@ -14,7 +15,7 @@ use Rattle.um_each_answer.proofs.Texts.{on_test}
 
 -- the size 1
 abbrev size_one : Frac
-size_one = record { num = pos 1; den = pos 1; positive = le_z_yes tt; den_fits = le_z_yes tt; above = le_z_yes tt; num_fits = le_z_yes tt; lowest = refl }
+size_one = record { num = pos 1; den = pos 1; positive = le_z_yes tt; den_fits = le_z_yes tt; above = le_z_yes tt; num_fits = le_z_yes tt; lowest = gcd-one 1 }
 
 module _ (y : List ℕ) (d : Frac) (sizes : List (List ℕ × Frac)) (x : List ℕ) where
   abbrev sizes_too : List (List ℕ × Frac)
