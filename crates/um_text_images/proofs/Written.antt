@@ -5,9 +5,8 @@ use Rattle.um_tree.specs.ProgramTree.{FunctionTree, ProgramTree}
 use Rattle.um_tree.specs.Formed.{IsFormed}
 use Rattle.um_tree.specs.Shapes.{IsShaped}
 use Rattle.um_shape.specs.Laws.{FaultlessIsShaped}
-use Rattle.um_machine.specs.declared.op.Op.{Op}
 use Rattle.um_machine.specs.declared.code.Code.{Code}
-use Rattle.um_gen.specs.ProgramCode.{functions_code, program_code}
+use Rattle.um_gen.specs.ProgramCode.{program_code}
 use Rattle.um_verify.specs.ImageTree.{HeadTree, ImageTree}
 use Rattle.um_image.specs.Encoding.{image_bytes}
 use Rattle.um_image.specs.Places.{OpFits}
