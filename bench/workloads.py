@@ -141,6 +141,19 @@ let walk (n: num) = total (build n ([] : num list)) 0
 """
 
 
+def comments(lines):
+    """Lines of a comment each, and one function."""
+    return "".join("// The measurement of line %d, as it was written down.\n" % k for k in range(lines)) + "let k = 1\n"
+
+
+def rows(lines):
+    """A program of one function with units, and lines of a call each."""
+    text = "[<Measure>] type kg\n[<Measure>] type m\n[<Measure>] type s\n"
+    text += "let kinetic (mass: num<kg>) (speed: num<m/s>) = mass * speed * speed / 2\n---\n"
+    call = "kinetic\t%d.%03d<kg>\t%d.5<m/s>\n"
+    return text + "".join(call % (k % 97, k % 1000, k % 4001) for k in range(lines))
+
+
 def ocaml_small(functions):
     """`small` in OCaml, without units."""
     return "let f0 x = x *. 2.\n" + "".join("let f%d x = f%d x /. 3.\n" % (k, k - 1) for k in range(1, functions))
@@ -207,6 +220,11 @@ WORKLOADS = [
     Workload("a list built and walked", "run 10000000 walk {}", walks, (50000, 200000),
              (Rival("lua {file} {size}", ".lua", lua_walks),)),
     Workload("literals with written units", "rescale m=100", readings, (550, 2000)),
+    Workload("copies of a model", "annot", copies, (82, 330)),
+    Workload("functions of 25 products", "annot", products, (475, 1900)),
+    Workload("small functions", "annot", small, (500, 2000)),
+    Workload("sums and products", "tidy", sums, (475, 1900)),
+    Workload("lines of a comment", "tidy", comments, (4000, 16000)),
     Workload("copies of a model", "explain", copies, (82, 330)),
     Workload("small functions, a fault in the last", "explain", small_and_fault, (500, 2000)),
     Workload("seventeen of 1,561 equations", "explain", unlike, (97, 390)),
@@ -219,4 +237,7 @@ WORKLOADS = [
     Workload("fib", "steps 10000000 fib {}", calls, (19, 24)),
     Workload("fib", "eval 10000000 fib {}", calls, (19, 24)),
     Workload("a list built and walked", "eval 10000000 walk {}", walks, (50000, 200000)),
+    Workload("fib", "trace 10000000 fib {}", calls, (19, 24)),
+    Workload("fib", "show 2 1 10000000 fib {}", calls, (24, 29)),
+    Workload("lines of a call", "calls 10000000", rows, (25000, 100000)),
 ]

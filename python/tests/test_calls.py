@@ -33,12 +33,21 @@ def test_each_line_is_that_of_run(um):
 
 @pytest.mark.parametrize("calls, answers", [
     ("", ""), ("\n", "\n"), ("\n\n", "\n\n"), ("mean\t[1]", "1\n"), ("mean\t[1]\r\n\r\nmean\t[2]\r\n", "1\n\n2\n"),
-    ("mean\t[1]\t\n", "error 11: wrong number of arguments\n"), ("mean [1]\n", "error 11: no such function\n"),
+    ("mean\t[1]\t\n", "error 11: wrong number of arguments\n"), ("mean[1]\n", "error 11: no such function\n"),
     ("---\nmean\t[3]\n", "error 11: no such function\n3\n"), (b"mean\t[\xff]\nmean\t[4]\n", "error 1: usage\n4\n")])
 def test_lines_are_handed_on_as_they_are(um, calls, answers):
     found = um("calls", VEHICLE, "-", stdin=calls)
     assert (found.status, found.out, found.err) == (0, answers, "")
     assert answer(["calls", "10000000"], source(calls)) == (0, answers)
+
+
+def test_spaces_between_words_are_told_once(um):
+    calls = "mean\t[1]\n a \nmean [1]\nmean [2]\n"
+    for more in ([], ["--check"]):
+        found = um("calls", VEHICLE, "-", *more, stdin=calls)
+        assert found.out == "1\n" + 3 * "error 11: no such function\n"
+        assert [line for line in found.err.splitlines() if line.startswith("um: ")] == [
+            "um: <stdin>:3: a tab stands between a function and its arguments, and this line has spaces alone"]
 
 
 def test_check_tells_the_refused_calls_and_ends_with_the_status_of_the_first(um, tmp_path):

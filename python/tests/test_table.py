@@ -135,6 +135,18 @@ def test_a_table_that_does_not_fit_is_refused(um, data, why):
     assert found.err.startswith(f"um: <stdin>:1: {why}")
 
 
+@pytest.mark.parametrize("data, more, hint", [
+    ("mass [kg];speed [m/s]\n2;3\n", [], "; if ';' stands between the cells, say --delimiter ';'\n"),
+    ("mass [kg]\tspeed [m/s]\n2\t3\n", [], "; if tabs stand between the cells, say --delimiter tab\n"),
+    ("mass [kg];speed [m/s]\n2;3\n", ["--columns", "mass,speed"], "between the cells, say --delimiter ';'\n"),
+    ("mass [kg],speed [m/s]\n2,3\n", ["--delimiter", ";"], "; --columns names those to take\n"),
+    ("a;b,c;d,e\n2,3,4\n", [], "; --columns names those to take\n")])
+def test_another_sign_between_cells_is_told(um, data, more, hint):
+    found = um("table", VEHICLE, "kinetic", "-", *more, stdin=data)
+    assert (found.status, found.out) == (65, "")
+    assert found.err.endswith(hint)
+
+
 @pytest.mark.parametrize("names, why", [("mass,weight", "no column has the name 'weight'"),
                                         ("mass,a", "several columns have the name 'a'")])
 def test_a_column_that_is_not_there_is_refused(um, names, why):
@@ -147,7 +159,7 @@ def test_a_row_of_another_length_is_refused(um):
     data = "mass [kg],speed [m/s]\n2,3\n1\n\n1,2,3\n4,1\n"
     found = um("table", VEHICLE, "kinetic", "-", "--keep-going", stdin=data)
     assert (found.status, found.out) == (65, "mass [kg],speed [m/s],kinetic [kg m^2/s^2]\n2,3,9\n4,1,2\n")
-    assert found.err == ("<stdin>:3: the row has 1 cells, and the table 2 columns (row 2)\n"
+    assert found.err == ("<stdin>:3: the row has 1 cell, and the table 2 columns (row 2)\n"
                          "<stdin>:5: the row has 3 cells, and the table 2 columns (row 3)\n")
 
 

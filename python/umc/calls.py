@@ -15,6 +15,7 @@ from umc.texts import MOST, STANDARD_INPUT, Text, gather
 
 CHUNK_SIZE = 4 << 20
 SEPARATOR = "\t"
+UNKNOWN = "error 11: no such function"
 
 
 class Lines:
@@ -65,6 +66,7 @@ class Job:
         self.args, self.front, self.text = args, front, text
         self.lines = Lines(args.calls)
         self.number = self.status = 0
+        self._told_of_tabs = False
 
     def answer(self, lines: list[str]) -> bool:
         """Asks about lines and tells the answers; whether the program took them."""
@@ -82,6 +84,7 @@ class Job:
             raise Crashed(f"the program gave {len(found)} answers to {len(lines)} calls", Exit.SOFTWARE)
         if not self.front.json:
             self.front.write(answer.output)
+        self._tell_of_tabs(lines, found)
         if self.front.json or self.args.check:
             for line, text in zip(lines, found):
                 self.number += 1
@@ -89,6 +92,14 @@ class Job:
         else:
             self.number += len(lines)
         return True
+
+    def _tell_of_tabs(self, lines: list[str], found: list[str]) -> None:
+        """Tells once, beside the answers, of a refused line in which spaces stand where tabs should."""
+        for number, (line, text) in enumerate(zip(lines, found), self.number + 1):
+            if text == UNKNOWN and not self._told_of_tabs and SEPARATOR not in line and " " in line.strip():
+                self.front.terminal.say(f"um: {self.lines.name}:{number}: a tab stands between a function and its "
+                                        "arguments, and this line has spaces alone")
+                self._told_of_tabs = True
 
     def _tell(self, line: str, text: str) -> None:
         """Tells the answer to one line, as far as it doesn't stand on standard output yet."""

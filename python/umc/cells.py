@@ -103,11 +103,11 @@ def columns(headers: Sequence[str], parameters: Sequence[dict[str, Any]], chosen
     """The column of each parameter: those that are named, otherwise all in their order."""
     places = _chosen(headers, chosen) if chosen is not None else list(range(len(headers)))
     if len(places) != len(parameters):
-        raise DataError(f"{function} takes {_counted(len(parameters), 'argument')}, and there "
-                        f"{'is' if len(places) == 1 else 'are'} {_counted(len(places), 'column')}; "
+        raise DataError(f"{function} takes {counted(len(parameters), 'argument')}, and there "
+                        f"{'is' if len(places) == 1 else 'are'} {counted(len(places), 'column')}; "
                         "--columns names those to take")
     if units is not None and len(units) != len(places):
-        raise DataError(f"--units has {_counted(len(units), 'unit')} for {_counted(len(places), 'column')}")
+        raise DataError(f"--units has {counted(len(units), 'unit')} for {counted(len(places), 'column')}")
     every = []
     for number, (at, parameter) in enumerate(zip(places, parameters)):
         own = header_parts(headers[at])[1] or ""
@@ -132,7 +132,7 @@ def _chosen(headers: Sequence[str], chosen: Sequence[str]) -> list[int]:
     return places
 
 
-def _counted(count: int, noun: str) -> str:
+def counted(count: int, noun: str) -> str:
     return f"{count} {noun}" if count == 1 else f"{count} {noun}s"
 
 

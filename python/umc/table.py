@@ -10,7 +10,7 @@ from typing import Any
 from umc import printed, reports
 from umc.arguments import Argument, line_of_calls, source_of_calls
 from umc.call_commands import limits_of
-from umc.cells import CellError, Column, columns, items_of
+from umc.cells import CellError, Column, columns, counted, items_of
 from umc.data import DataFile, Row
 from umc.errors import Crashed, DataError, Exit, UsageError
 from umc.front import Front
@@ -20,6 +20,8 @@ from umc.similar import similar
 from umc.texts import STANDARD_INPUT, Text, gather
 
 CHUNK_SIZE = 4 << 20
+# What may stand between cells in place of a comma, as one reads it and as --delimiter names it.
+OTHER_DELIMITERS = {"\t": ("tabs stand", "tab"), ";": ("';' stands", "';'"), "|": ("'|' stands", "'|'")}
 
 
 @dataclass(frozen=True)
@@ -148,7 +150,13 @@ def _columns(args: argparse.Namespace, data: DataFile, parameters: list[dict[str
     try:
         return columns(data.header, parameters, _listed(args.columns), _listed(args.units), args.function)
     except DataError as error:
-        raise DataError(error.message, f"{data.name}:1") from error
+        raise DataError(error.message + _other_delimiter(data.header), f"{data.name}:1") from error
+
+
+def _other_delimiter(header: list[str]) -> str:
+    """What may be wrong with a table of one column; nothing if nothing in its header tells."""
+    found = next((told for sign, told in OTHER_DELIMITERS.items() if sign in header[0]), None)
+    return f"; if {found[0]} between the cells, say --delimiter {found[1]}" if found and len(header) == 1 else ""
 
 
 def _listed(word: str | None) -> list[str] | None:
@@ -158,7 +166,8 @@ def _listed(word: str | None) -> list[str] | None:
 def _words(job: Job, row: Row) -> list[str] | Fault:
     """The arguments that a row means."""
     if len(row.cells) != len(job.data.header):
-        return Fault(None, f"the row has {len(row.cells)} cells, and the table {len(job.data.header)} columns")
+        return Fault(None, f"the row has {counted(len(row.cells), 'cell')}, and the table "
+                           f"{counted(len(job.data.header), 'column')}")
     try:
         return [column.argument(row.cells[column.at]) for column in job.columns]
     except CellError as error:

@@ -1,8 +1,8 @@
 -- The steps of an annotation: types pushed one by one, their variables, and the types put back at their nodes.
-use Rattle.std.proofs.Common.{◌≡◌, ℕ, ◌+◌, ◌<◌, ◌≤◌, Bool, true, false, cond, nat_le, List, [], ◌∷◌, ◌++◌, map, drop, take, set, length, get_or, Some, None, inl, inr, refl, sym, ap, ◌∙◌, subst, arith, take-append-drop}
+use Rattle.std.proofs.Common.{◌≡◌, ℕ, ◌+◌, ◌<◌, ◌≤◌, Bool, true, false, cond, nat_le, List, [], ◌∷◌, ◌++◌, map, drop, take, set, length, get_or, Some, None, inl, inr, refl, sym, ap, ◌∙◌, subst, arith}
 use Rattle.std.specs.Prelude.{All}
 use Rattle.std.proofs.lemmas.Bool.{cases_Bool, cond-true, cond-false}
-use Rattle.std.proofs.lemmas.List.{append_assoc, map-append, length-map, length-take-le, take_more, take_more_set, drop_more, get_or-drop}
+use Rattle.std.proofs.lemmas.List.{append_assoc, map-append, length-append, length-map, length-take-le, take_more, take_more_set, drop_more, get_or-drop}
 use Rattle.std.proofs.lemmas.List.Elements.{All-append}
 use Rattle.um_units.specs.PowerMap.{PowerMap, nth}
 use Rattle.um_units.specs.Variables.{VariablesBelow}
@@ -21,8 +21,11 @@ use Rattle.um_annot.specs.TextOrder.{put_in, in_text_order, node_with}
 use Rattle.um_annot.specs.Annotated.{node_types, first_past, numbered, general}
 use Rattle.um_annot.specs.declared.stop.AnnotStop.{AnnotStop}
 use Rattle.um_annot.specs.declared.stop.AnnotStop.TheVariants as stop
-use Rattle.um_annot.specs.Answers.{StopsAt, solved_nodes, retyped}
+use Rattle.um_annot.specs.declared.order.Placed.{Placed}
+use Rattle.um_annot.specs.Answers.{StopsAt, node_at, solved_nodes, retyped}
+use Rattle.um_annot.specs.Placing.{placed_nodes, type_of}
 use Rattle.um_annot.proofs.Ordered.{order_with}
+use Rattle.um_annot.proofs.PlacedNodes.{placed_more}
 use Rattle.um_annot.proofs.NodeLists.{types_with}
 
 -- ---- variables of nodes in another order
@@ -72,36 +75,28 @@ past_front (m ∷ ns) ms at h = tested (type_fits m.type) refl (λ k. past_front
     tested true e rest k = ap (λ c. cond c (first_past (ns ++ ms)) (Some m.at)) e ∙ rest (sym (ap (λ c. cond c (first_past ns) (Some m.at)) e) ∙ k)
     tested false e rest k = ap (λ c. cond c (first_past (ns ++ ms)) (Some m.at)) e ∙ sym (ap (λ c. cond c (first_past ns) (Some m.at)) e) ∙ k
 
--- the first i nodes and the next
-next_nodes : (ns : List NodeType) (i : ℕ) (n : NodeType) → i < length ns → n ≡ get_or ns i n → map typed_node (take (i + 1) ns) ≡ map typed_node (take i ns) ++ typed_node n ∷ []
-next_nodes ns i n below is = ap (map typed_node) (take_more ns i n below ∙ ap (λ x. take i ns ++ x ∷ []) (sym is)) ∙ map-append typed_node (take i ns) (n ∷ [])
+pub range_more : (us : List PowerMap) (front : List TypedNode) (n : TypedNode) (more : List TypedNode) → more ≡ front ++ n ∷ [] → first_past (solved_nodes us front) ≡ None → first_past (solved_nodes us more) ≡ first_past (solved_nodes us (n ∷ []))
+range_more us front n more e none =
+    ap (λ xs. first_past (solved_nodes us xs)) e ∙ ap first_past (map-append (node_with (put (nth us))) front (n ∷ []))
+    ∙ past_more (solved_nodes us front) (node_with (put (nth us)) n) none
 
-next_solved : (us : List PowerMap) (ns : List NodeType) (i : ℕ) (n : NodeType) → i < length ns → n ≡ get_or ns i n → solved_nodes us (map typed_node (take (i + 1) ns)) ≡ solved_nodes us (map typed_node (take i ns)) ++ solved_nodes us (typed_node n ∷ [])
-next_solved us ns i n below is = ap (solved_nodes us) (next_nodes ns i n below is) ∙ map-append (node_with (put (nth us))) (map typed_node (take i ns)) (typed_node n ∷ [])
-
-pub range_more : (us : List PowerMap) (ns : List NodeType) (i : ℕ) (n : NodeType) → i < length ns → n ≡ get_or ns i n → first_past (solved_nodes us (map typed_node (take i ns))) ≡ None → first_past (solved_nodes us (map typed_node (take (i + 1) ns))) ≡ first_past (solved_nodes us (typed_node n ∷ []))
-range_more us ns i n below is none = ap first_past (next_solved us ns i n below is) ∙ past_more (solved_nodes us (map typed_node (take i ns))) (node_with (put (nth us)) (typed_node n)) none
-
-pub pushed_more : (us : List PowerMap) (ns : List NodeType) (i : ℕ) (n : NodeType) (old types : List TypeTree) (t : TypeTree) → i < length ns → n ≡ get_or ns i n → types ≡ old ++ node_types (solved_nodes us (map typed_node (take i ns))) → t ≡ put (nth us) (type_tree n.ty) →
-    types ++ t ∷ [] ≡ old ++ node_types (solved_nodes us (map typed_node (take (i + 1) ns)))
-pushed_more us ns i n old types t below is before one =
+pub pushed_more : (us : List PowerMap) (front : List TypedNode) (n : TypedNode) (more : List TypedNode) (old types : List TypeTree) (t : TypeTree) → more ≡ front ++ n ∷ [] → types ≡ old ++ node_types (solved_nodes us front) → t ≡ put (nth us) n.type →
+    types ++ t ∷ [] ≡ old ++ node_types (solved_nodes us more)
+pushed_more us front n more old types t e before one =
     (λ j. before j ++ one j ∷ [])
-    ∙ append_assoc old (node_types (solved_nodes us (map typed_node (take i ns)))) (put (nth us) (type_tree n.ty) ∷ [])
-    ∙ ap (λ xs. old ++ xs) (sym (map-append (λ (x : TypedNode). x.type) (solved_nodes us (map typed_node (take i ns))) (solved_nodes us (typed_node n ∷ []))))
-    ∙ ap (λ xs. old ++ node_types xs) (sym (next_solved us ns i n below is))
+    ∙ append_assoc old (node_types (solved_nodes us front)) (put (nth us) n.type ∷ [])
+    ∙ ap (λ xs. old ++ xs) (sym (map-append (λ (x : TypedNode). x.type) (solved_nodes us front) (solved_nodes us (n ∷ []))))
+    ∙ ap (λ xs. old ++ node_types xs) (sym (map-append (node_with (put (nth us))) front (n ∷ [])))
+    ∙ ap (λ xs. old ++ node_types (solved_nodes us xs)) (sym e)
 
 -- a node that is out of range is the first of all
-pub stops_among : (us : List PowerMap) (ns : List NodeType) (i : ℕ) (n : NodeType) (e : AnnotStop) → i < length ns → n ≡ get_or ns i n → first_past (solved_nodes us (map typed_node (take i ns))) ≡ None →
-    StopsAt (first_past (solved_nodes us (typed_node n ∷ []))) e → StopsAt (first_past (solved_nodes us (map typed_node ns))) e
-stops_among us ns i n (stop.PowerRange at) below is none h =
-    let front = solved_nodes us (map typed_node (take (i + 1) ns)) in
-    let back = solved_nodes us (map typed_node (drop (i + 1) ns)) in
-    let whole : solved_nodes us (map typed_node ns) ≡ front ++ back =
-    ap (λ xs. solved_nodes us (map typed_node xs)) (sym (take-append-drop (i + 1) ns))
-    ∙ ap (solved_nodes us) (map-append typed_node (take (i + 1) ns) (drop (i + 1) ns))
-    ∙ map-append (node_with (put (nth us))) (map typed_node (take (i + 1) ns)) (map typed_node (drop (i + 1) ns)) in
-    ap first_past whole ∙ past_front front back at (range_more us ns i n below is none ∙ h)
-stops_among us ns i n stop.NoMemory below is none h = tt
+pub stops_among : (us : List PowerMap) (front : List TypedNode) (n : TypedNode) (back whole : List TypedNode) (e : AnnotStop) → whole ≡ (front ++ n ∷ []) ++ back → first_past (solved_nodes us front) ≡ None →
+    StopsAt (first_past (solved_nodes us (n ∷ []))) e → StopsAt (first_past (solved_nodes us whole)) e
+stops_among us front n back whole (stop.PowerRange at) split none h =
+    ap (λ xs. first_past (solved_nodes us xs)) split
+    ∙ ap first_past (map-append (node_with (put (nth us))) (front ++ n ∷ []) back)
+    ∙ past_front (solved_nodes us (front ++ n ∷ [])) (solved_nodes us back) at (range_more us front n (front ++ n ∷ []) refl none ∙ h)
+stops_among us front n back whole stop.NoMemory split none h = tt
 
 -- ---- the types put back at their nodes
 drop_map : (f : TypeTree → TypeTree) (hs ts : List TypeTree) → drop (length hs) (map f (hs ++ ts)) ≡ map f ts
@@ -141,26 +136,27 @@ retyped_append [] (u ∷ ts) n t l = absurd (cc l)
 retyped_append (m ∷ ns) [] n t l = absurd (cc l)
 retyped_append (m ∷ ns) (u ∷ ts) n t l = ap (λ xs. record { at = m.at; type = u } ∷ xs) (retyped_append ns ts n t (omega (arith, l)))
 
-pub retyped_more : (ns : List NodeType) (ts : List Ty) (i : ℕ) (n : NodeType) (t : Ty) → i < length ns → i < length ts → n ≡ get_or ns i n → t ≡ get_or ts i t →
-    retyped (map typed_node (take (i + 1) ns)) (map type_tree (take (i + 1) ts)) ≡ retyped (map typed_node (take i ns)) (map type_tree (take i ts)) ++ record { at = n.at; type = type_tree t } ∷ []
-retyped_more ns ts i n t below inside is same =
-    let low : i ≤ length ns = omega (arith, below) in
+retyped_more : (order : List Placed) (ts : List Ty) (i : ℕ) (p : Placed) (t : Ty) → i < length order → i < length ts → p ≡ get_or order i p → t ≡ get_or ts i t →
+    retyped (placed_nodes [] (take (i + 1) order)) (map type_tree (take (i + 1) ts)) ≡ retyped (placed_nodes [] (take i order)) (map type_tree (take i ts)) ++ node_at p.at (type_tree t) ∷ []
+retyped_more order ts i p t below inside is same =
+    let low : i ≤ length order = omega (arith, below) in
     let low_too : i ≤ length ts = omega (arith, inside) in
-    let long : length (map typed_node (take i ns)) ≡ length (map type_tree (take i ts)) = omega (arith, length-map (take i ns) typed_node, length-map (take i ts) type_tree, length-take-le i ns low, length-take-le i ts low_too) in
+    let one = λ (q : Placed). node_at q.at (type_of [] q.node) in
+    let long : length (placed_nodes [] (take i order)) ≡ length (map type_tree (take i ts)) = omega (arith, length-map (take i order) one, length-map (take i ts) type_tree, length-take-le i order low, length-take-le i ts low_too) in
     let types : map type_tree (take (i + 1) ts) ≡ map type_tree (take i ts) ++ type_tree t ∷ [] = ap (map type_tree) (take_more ts i t inside ∙ ap (λ x. take i ts ++ x ∷ []) (sym same)) ∙ map-append type_tree (take i ts) (t ∷ []) in
-    (λ j. retyped (next_nodes ns i n below is j) (types j))
-    ∙ retyped_append (map typed_node (take i ns)) (map type_tree (take i ts)) (typed_node n) (type_tree t) long
+    (λ j. retyped (placed_more [] order i p below is j) (types j))
+    ∙ retyped_append (placed_nodes [] (take i order)) (map type_tree (take i ts)) (node_at p.at (type_of [] p.node)) (type_tree t) long
 
--- a type is put at the node that comes next, and the lists stay after it
 same_next : {X : Type 0} (xs ys : List X) (i : ℕ) (d : X) → i < length xs → i < length ys → drop i xs ≡ drop i ys → get_or xs i d ≡ get_or ys i d
 same_next xs ys i d below inside h = let both : get_or xs i d ∷ drop (i + 1) xs ≡ get_or ys i d ∷ drop (i + 1) ys = sym (drop_more xs i d below) ∙ h ∙ drop_more ys i d inside in cc both
 
-pub put_more : (ns old : List NodeType) (ts : List Ty) (i : ℕ) (n m : NodeType) (t : Ty) → i < length ns → i < length old → i < length ts → n ≡ get_or ns i n → drop i ns ≡ drop i old → t ≡ get_or ts i t → typed_node m ≡ record { at = n.at; type = type_tree t } →
-    map typed_node (take i ns) ≡ retyped (map typed_node (take i old)) (map type_tree (take i ts)) → map typed_node (take (i + 1) (set ns i m)) ≡ retyped (map typed_node (take (i + 1) old)) (map type_tree (take (i + 1) ts))
-put_more ns old ts i n m t below inside low is left same made done =
+-- a node is put at the place that comes next
+pub put_more : (ns : List NodeType) (order : List Placed) (ts : List Ty) (i : ℕ) (p : Placed) (m : NodeType) (t : Ty) → i < length ns → i < length order → i < length ts → p ≡ get_or order i p → t ≡ get_or ts i t → typed_node m ≡ node_at p.at (type_tree t) →
+    map typed_node (take i ns) ≡ retyped (placed_nodes [] (take i order)) (map type_tree (take i ts)) → map typed_node (take (i + 1) (set ns i m)) ≡ retyped (placed_nodes [] (take (i + 1) order)) (map type_tree (take (i + 1) ts))
+put_more ns order ts i p m t below inside low is same made done =
     ap (map typed_node) (take_more_set ns i m below) ∙ map-append typed_node (take i ns) (m ∷ [])
     ∙ (λ j. done j ++ made j ∷ [])
-    ∙ sym (retyped_more old ts i n t inside low (is ∙ same_next ns old i n below inside left) same)
+    ∙ sym (retyped_more order ts i p t inside low is same)
 
 -- the type at the place, where some heads come first
 pub type_next : (now ts : List Ty) (heads i : ℕ) (t : Ty) → heads + i < length now → heads + i < length ts → drop (heads + i) now ≡ drop (heads + i) ts → t ≡ get_or now (heads + i) t → t ≡ get_or (drop heads ts) i t
@@ -172,3 +168,10 @@ numbered_count f ts us vs e h =
     sym (length-map vs.items.items type_tree) ∙ ap length h
     ∙ length-map (type_trees us) (put (by_place (variable_order (type_trees us)))) ∙ ap length e
     ∙ length-map (type_trees ts) f ∙ length-map ts.items.items type_tree
+
+-- the function's own types and those of the nodes
+pub solved_count : (us : List PowerMap) (hs : List TypeTree) (nodes : List NodeType) (order : List Placed) (all : Types) → type_trees all ≡ hs ++ node_types (solved_nodes us (placed_nodes nodes order)) → length all.items.items ≡ length hs + length order
+solved_count us hs nodes order all e =
+    let ns = placed_nodes nodes order in
+    sym (length-map all.items.items type_tree) ∙ ap length e ∙ length-append hs (node_types (solved_nodes us ns))
+    ∙ ap (λ k. length hs + k) (length-map (solved_nodes us ns) (λ (n : TypedNode). n.type) ∙ length-map ns (node_with (put (nth us))) ∙ length-map order (λ (p : Placed). node_at p.at (type_of nodes p.node)))

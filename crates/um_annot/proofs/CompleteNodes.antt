@@ -1,5 +1,5 @@
 -- The nodes of a derivation have the derived types, with the units that the derivation uses.
-use Rattle.std.proofs.Common.{◌≡◌, ℕ, ◌+◌, List, [], ◌∷◌, ◌++◌, map, slice_get, refl, sym, ap, ◌∙◌}
+use Rattle.std.proofs.Common.{◌≡◌, ℕ, ◌+◌, List, [], ◌∷◌, ◌++◌, map, slice_get, refl, sym, ◌∙◌}
 use Rattle.std.proofs.lemmas.List.{map-append}
 use Rattle.um_units.specs.PowerMap.{PowerMap, replace}
 use Rattle.um_tree.specs.TypeTree.{TypeTree, bool_type, num_type, list_type, record_type}
@@ -8,17 +8,16 @@ use Rattle.um_tree.specs.ProgramTree.{RecordTree, Signature}
 use Rattle.um_tree.specs.Typing.{put, put_signature, unit_at, field_types, Typed, AllTyped}
 use Rattle.um_slots.specs.Holes.{Callee, callee_holes, record_holes, expr_holes, exprs_holes}
 use Rattle.um_slots.specs.Noted.{noted_unit, noted_type}
-use Rattle.um_equal_types.specs.Steps.{Step}
 use Rattle.um_rows.specs.NodeTypes.{TypedNode, nodes_of, derived_nodes}
-use Rattle.um_rows.specs.Rules.{Derived, AllDerived, after, formed, item, number_rule, local_rule, call_rule, negate_rule, not_rule, pown_rule, truths_rule, arith_rule, compare_rule, if_rule, split_rule, nil_rule, list_rule, cons_rule, record_rule, field_rule}
+use Rattle.um_rows.specs.Rules.{Derived, AllDerived, formed, item, number_rule, local_rule, call_rule, negate_rule, not_rule, pown_rule, truths_rule, arith_rule, compare_rule, if_rule, split_rule, nil_rule, list_rule, cons_rule, record_rule, field_rule}
 use Rattle.um_rows.specs.Derivation.{first_units, offered, derive, derive_all}
 use Rattle.um_rows.proofs.PutLiterals.{put_literals, all_put_literals}
 use Rattle.um_rows.proofs.CompleteRules.{item_complete}
 use Rattle.um_rows.proofs.Variables.{CalleeBelow}
 use Rattle.um_rows.proofs.Callees.{Offers}
-use Rattle.um_rows.proofs.Used.{then_units, Agrees, agrees_first, agrees_second, offer_used, used, all_used}
-use Rattle.um_rows.proofs.Complete.{HolesAre, complete, all_complete}
-use Rattle.um_rows.proofs.NodeSteps.{FormsOne, whole_one, number_one, local_one, call_one, negate_one, not_one, pown_one, truths_one, arith_one, compare_one, if_one, split_one, nil_one, list_one, cons_one, record_one, field_one}
+use Rattle.um_rows.proofs.Used.{then_units, agrees_first, agrees_second, offer_used, used, all_used}
+use Rattle.um_rows.proofs.Complete.{HolesAre, complete}
+use Rattle.um_rows.proofs.NodeSteps.{whole_one, number_one, local_one, call_one, negate_one, not_one, pown_one, truths_one, arith_one, compare_one, if_one, split_one, nil_one, list_one, cons_one, record_one, field_one}
 use Rattle.um_annot.specs.TypingNodes.{one, typing_nodes, all_nodes}
 use Rattle.um_annot.proofs.SoundNodes.{with_units, units_both, own_last, own_alone, two_last, three_last}
 

@@ -2,7 +2,6 @@
 use Rattle.std.proofs.Common.{◌≡◌, ℕ, ◌+◌, ◌<◌, List, [], ◌∷◌, ◌++◌, map, refl, sym, ap, ◌∙◌, subst, arith}
 use Rattle.um_units.specs.PowerMap.{PowerMap, replace, nth}
 use Rattle.um_units.proofs.Replacement.{replace-variable}
-use Rattle.um_tree.specs.TypeTree.{TypeTree}
 use Rattle.um_tree.specs.ExprTree.{ExprTree}
 use Rattle.um_tree.specs.ProgramTree.{RecordTree, FunctionTree, Signature, SchemeTree}
 use Rattle.um_tree.specs.Typing.{put, put_signature, Earlier, MayRecur, Calls, IsLooseTypingOf, Typed}
@@ -18,7 +17,7 @@ use Rattle.um_rows.specs.Derivation.{derive, first_units}
 use Rattle.um_rows.specs.Equations.{result_rows, own_signature, head_steps, equations, slot_equations}
 use Rattle.um_rows.specs.Solutions.{slot_signature, IsSolution, IsSolved}
 use Rattle.um_equal_types.proofs.HeldSteps.{Holds, Holds-front, Holds-back, Holds-solves, Solves-holds}
-use Rattle.um_rows.proofs.PutLiterals.{put_literals, same_literals}
+use Rattle.um_rows.proofs.PutLiterals.{same_literals}
 use Rattle.um_rows.proofs.Used.{then_units, Agrees, agrees_first, agrees_second, notes_used, result_used, used}
 use Rattle.um_rows.proofs.Variables.{TypesBelow, signature_put_alike_below, put_alike_below, Holds_alike_below}
 use Rattle.um_rows.proofs.SlotLaws.{slot_values, hole_value, name_value, length-first, nth-first}

@@ -1,6 +1,7 @@
 mod Examples
 pub mod Ordered
 mod NodeLists
+mod PlacedNodes
 mod AnnotSteps
 mod Functions
 mod SoundNodes

@@ -1,32 +1,30 @@
 -- The types of a function's nodes are most general.
 -- Source: Kennedy (1996): each derivation of each typing is an instance of the principal one.
-use Rattle.std.proofs.Common.{◌≡◌, ◌↔◌, ℕ, ◌<◌, leb, cond, List, [], ◌∷◌, ◌++◌, map, length, Option, Some, None, slice_get, refl, sym, ap, ◌∙◌, subst, arith}
+use Rattle.std.proofs.Common.{◌≡◌, ◌↔◌, ℕ, ◌<◌, leb, cond, List, [], ◌∷◌, ◌++◌, map, length, Option, Some, None, refl, sym, ap, ◌∙◌, subst, arith}
 use Rattle.std.specs.Prelude.{All}
 use Rattle.std.proofs.lemmas.List.{map-append, length-map}
 use Rattle.um_units.specs.PowerMap.{PowerMap, replace, nth}
 use Rattle.um_units.specs.Variables.{VariablesBelow}
-use Rattle.um_units.specs.Solutions.{IsJointSolution}
 use Rattle.um_units.proofs.Solutions.{IsSubstitutionInstance_refl}
 use Rattle.um_units.proofs.Replacement.{nth-map}
 use Rattle.um_tree.specs.TypeTree.{TypeTree, bool_type}
-use Rattle.um_tree.specs.ProgramTree.{RecordTree, FunctionTree, ProgramTree, Signature, SchemeTree}
-use Rattle.um_tree.specs.Typing.{put, put_signature, moved, moved_signature, Earlier, Calls, IsLooseTypingOf, IsRigidTypingOf, IsTypingOf, IsInstantiation, typings_below}
+use Rattle.um_tree.specs.ProgramTree.{RecordTree, FunctionTree, Signature, SchemeTree}
+use Rattle.um_tree.specs.Typing.{put, put_signature, moved, moved_signature, Earlier, IsInstantiation, typings_below}
 use Rattle.um_tree.specs.Scheme.{signature_types}
 use Rattle.um_tree.specs.Laws.{LiteralsAreClosed}
 use Rattle.um_elim.specs.Instances.{SolvesExactly}
-use Rattle.um_elim.specs.Numbering.{variable_order, by_place, renumbered}
+use Rattle.um_elim.specs.Numbering.{variable_order, by_place}
 use Rattle.um_elim.specs.Solution.{rigid_units, parameter_rows}
 use Rattle.um_elim.proofs.Cases.{on_test}
 use Rattle.um_elim.proofs.NumberedTypes.{same_instances}
-use Rattle.um_elim.proofs.RenamedUnits.{put-put, puts-put}
 use Rattle.um_equal_types.specs.declared.row.Row.{Row}
 use Rattle.um_equal_types.specs.Steps.{rows_of, units_of, first_past as first_step_past}
 use Rattle.um_slots.specs.Slots.{slot_count}
 use Rattle.um_rows.specs.Equations.{slot_equations}
-use Rattle.um_rows.specs.Solutions.{slot_signature, IsSolution, IsRigid, HaveSchemes}
+use Rattle.um_rows.specs.Solutions.{slot_signature}
 use Rattle.um_rows.specs.FirstUnsolvable.{Solving, solved, unsolved, out_of_range, solve}
 use Rattle.um_rows.specs.Generalised.{generalised_unit, generalised}
-use Rattle.um_rows.specs.Judgement.{numbered_scheme, signature_fits, Judgement, has_scheme, too_many_slots, passes_range, has_no_typing, not_general, by_slots, by_solution, by_solving as judged_by_solving, by_rows, by_range, judge}
+use Rattle.um_rows.specs.Judgement.{numbered_scheme, signature_fits, Judgement, has_scheme, too_many_slots, passes_range, by_slots, by_solution, by_solving as judged_by_solving, by_rows, by_range, judge}
 use Rattle.um_rows.specs.NodeTypes.{TypedNode, function_nodes}
 use Rattle.um_rows.proofs.PutTypes.{signature_put-put}
 use Rattle.um_rows.proofs.Variables.{SignatureBelow, signature_put_alike_below, signature_put_below}
@@ -38,9 +36,8 @@ use Rattle.um_rows.proofs.JudgementLaws.{rigid_joint, joint_rigid, low}
 use Rattle.um_rows.proofs.GeneralisedUnits.{instantiation, instantiation_is, instance_instantiated, changed, instantiated_instance}
 use Rattle.um_infer.proofs.Prefix.{numbered_in_front}
 use Rattle.um_infer.proofs.FormingSteps.{types-put, types-moved, same_signature}
-use Rattle.um_annot.specs.TypingNodes.{typing_nodes}
 use Rattle.um_annot.specs.TextOrder.{in_text_order, node_with}
-use Rattle.um_annot.specs.Annotated.{Annotation, annotated, past_range, unless_past, first_past, node_types, numbered, general, by_heads, by_units, by_solving, annotation}
+use Rattle.um_annot.specs.Annotated.{annotated, unless_past, first_past, node_types, numbered, general, by_units, by_solving, annotation}
 use Rattle.um_annot.specs.Laws.{HasNodes, IsAnnotatedInstance, AnnotationsArePrincipal}
 use Rattle.um_annot.proofs.Ordered.{order_with}
 use Rattle.um_annot.proofs.NodeLists.{types_with, with_alike, maps_twice, puts_twice, twice_with, with_both}

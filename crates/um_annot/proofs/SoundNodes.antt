@@ -5,7 +5,7 @@ use Rattle.um_units.specs.PowerMap.{PowerMap, replace}
 use Rattle.um_tree.specs.TypeTree.{TypeTree, bool_type, num_type, list_type, record_type}
 use Rattle.um_tree.specs.ExprTree.{ExprTree, ExprTrees, truth, number, local, call, negate, not_expr, pown, arith as arith_tree, compare, both, either, if, bind, split, nil, list_expr, cons, record_expr, field, none, more}
 use Rattle.um_tree.specs.ProgramTree.{RecordTree, Signature}
-use Rattle.um_tree.specs.Typing.{put, put_signature, Matches, Typed, AllTyped}
+use Rattle.um_tree.specs.Typing.{put, put_signature, Typed, AllTyped}
 use Rattle.um_slots.specs.Holes.{Callee, callee_holes, record_holes, expr_holes}
 use Rattle.um_slots.specs.Noted.{noted_unit, noted_type}
 use Rattle.um_equal_types.specs.Steps.{Step}
@@ -15,7 +15,7 @@ use Rattle.um_rows.specs.Derivation.{first_units, offered, derive, derive_all}
 use Rattle.um_equal_types.proofs.HeldSteps.{Holds, Holds-front, Holds-back}
 use Rattle.um_rows.proofs.PutTypes.{length-first_units}
 use Rattle.um_rows.proofs.PutLiterals.{put_literals, all_put_literals}
-use Rattle.um_rows.proofs.SoundRules.{negate_sound, not_sound, pown_sound, truths_sound, arith_sound, compare_sound, if_sound, split_sound, nil_sound, list_sound, cons_sound, record_sound, field_sound}
+use Rattle.um_rows.proofs.SoundRules.{negate_sound, not_sound, pown_sound, truths_sound, arith_sound, compare_sound, if_sound, split_sound, list_sound, cons_sound, record_sound, field_sound}
 use Rattle.um_rows.proofs.Callees.{Offers}
 use Rattle.um_rows.proofs.Sound.{call_sound, sound}
 use Rattle.um_rows.proofs.NodeSteps.{nodes_of-append, FormsOne, whole_one, number_one, local_one, call_one, negate_one, not_one, pown_one, truths_one, arith_one, compare_one, if_one, split_one, nil_one, list_one, cons_one, record_one, field_one, after_one}

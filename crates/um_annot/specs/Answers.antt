@@ -23,6 +23,10 @@ abbrev pub StopsAt : Option ℕ → AnnotStop → Type 0
 StopsAt o (stop.PowerRange at) = o ≡ Some at
 StopsAt o stop.NoMemory = Unit {0}
 
+-- a node at this place
+abbrev pub node_at : ℕ → TypeTree → TypedNode
+node_at at t = record { at = at; type = t }
+
 -- the nodes with the units put for the slots
 abbrev pub solved_nodes : List PowerMap → List TypedNode → List TypedNode
 solved_nodes units nodes = map (node_with (put (nth units))) nodes

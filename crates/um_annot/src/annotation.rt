@@ -13,10 +13,11 @@ ghost use Rattle.um_infer.specs.Inference.{all_schemes, infer};
 ghost use Rattle.um_infer.specs.SolvedPrograms.{IsSolvedAt};
 ghost use Rattle.um_annot.specs.TextOrder.{in_text_order};
 ghost use Rattle.um_annot.specs.Annotated.{annotation, by_heads, first_past, node_types, general};
-ghost use Rattle.um_annot.specs.Answers.{IsAnnotated, StopsAt, solved_nodes, retyped};
+ghost use Rattle.um_annot.specs.Answers.{IsAnnotated, StopsAt, node_at, solved_nodes, retyped};
+ghost use Rattle.um_annot.specs.Placing.{AreNumbersOf, placed_nodes};
 
 use crate::AnnotStop;
-use crate::order::put_in_text_order;
+use crate::order::{Placed, text_order};
 use std::alloc::{AllocError, Global};
 use std::mem;
 use um_elim::{ElimStop, Numbered, Solver, renumber};
@@ -25,12 +26,14 @@ use um_rows::NodeType;
 use um_shape::Shaped;
 use um_tree::{Ty, Types};
 
-/// What is known of a function: its number of unit parameters, the place of its name, and the number of base units.
+/// What is known of a function: its number of unit parameters, the place of its name, the number of base units, and
+/// its number of slots.
 #[derive(Clone, Copy)]
 struct Head {
     parameters: u32,
     at: u32,
     bases: u32,
+    slots: u32,
 }
 
 /// Puts the types of all nodes of the body of function `i` at the nodes, in the order of the text. What `infer_solved`
@@ -54,13 +57,11 @@ pub fn annotated(
         → IsAnnotated (annotation (length (program_tree shaped.now).bases) (program_tree shaped.now).records schemes i
         f) (typed_nodes solved.new.typed.nodes) result }
 {
-    let head = head_of(shaped, i);
-    let slots = solved.typed.rows.slots;
+    let head = head_of(shaped, i, solved.typed.rows.slots);
     match signature_by(alloc, &solved.solver, &solved.typed.rows, head.at) {
         Ok(types) => annotated_with(
             alloc,
             head,
-            slots,
             &solved.solver,
             types,
             &mut solved.typed.nodes.items,
@@ -69,13 +70,14 @@ pub fn annotated(
     }
 }
 
-/// What is known of function `i`.
-fn head_of(shaped: &Shaped, i: u32) -> Head
+/// What is known of function `i`, which has so many slots.
+fn head_of(shaped: &Shaped, i: u32, slots: u32) -> Head
     requires { i < length (program_tree shaped.now).functions }
     ensures function { (f : FunctionTree) → slice_get (program_tree shaped.now).functions i ≡ Some f
         → (result.parameters ≡ f.units) × (result.at ≡ f.at) }
     ensures bases { result.bases ≡ length (program_tree shaped.now).bases }
     ensures few { result.bases ≤ 16777216 }
+    ensures slots { result.slots ≡ slots }
     ensures formed { IsFormed (program_tree shaped.now) }
 {
     let program = shaped.program();
@@ -84,6 +86,7 @@ fn head_of(shaped: &Shaped, i: u32) -> Head
         parameters: function.units,
         at: function.at,
         bases: program.bases.as_slice().len() as u32,
+        slots,
     }
 }
 
@@ -91,44 +94,74 @@ fn head_of(shaped: &Shaped, i: u32) -> Head
 fn annotated_with(
     alloc: Global,
     head: Head,
-    slots: u32,
     solver: &Solver,
     types: Types,
     nodes: &mut Vec<NodeType>,
 ) -> Result<(), AnnotStop>
     requires unspent { solver.now.spent ≡ false }
-    requires slots { slots + head.parameters < 4294967295 }
+    requires slots { head.slots + head.parameters < 4294967295 }
     requires bases { head.bases + head.parameters < 2 ^ 32 }
-    requires types { All (λ k. k < slots) (variables (type_trees types)) }
-    requires nodes { All (λ k. k < slots) (variables (node_types (solved_nodes solver.now.units
+    requires types { All (λ k. k < head.slots) (variables (type_trees types)) }
+    requires nodes { All (λ k. k < head.slots) (variables (node_types (solved_nodes solver.now.units
         (map typed_node nodes.old.items)))) }
-    ensures { IsAnnotated (by_heads head.bases head.parameters slots (type_trees types)
+    ensures { IsAnnotated (by_heads head.bases head.parameters head.slots (type_trees types)
         (solved_nodes solver.now.units (in_text_order (map typed_node nodes.old.items))))
         (map typed_node nodes.new.items) result }
 {
-    match all_solved(alloc, solver, types, nodes) {
-        Ok(types) => Ok(put_numbered(alloc, head, slots, types, nodes)?),
+    match text_order(alloc, nodes) {
+        Ok(order) => annotated_in_order(alloc, head, solver, types, &order, nodes),
+        Err(_) => {
+            drop(types);
+            Err(AnnotStop::NoMemory)
+        }
+    }
+}
+
+/// The nodes in this order, with their types by the solver and the solved types of the function.
+fn annotated_in_order(
+    alloc: Global,
+    head: Head,
+    solver: &Solver,
+    types: Types,
+    order: &[Placed],
+    nodes: &mut Vec<NodeType>,
+) -> Result<(), AnnotStop>
+    requires unspent { solver.now.spent ≡ false }
+    requires numbers { AreNumbersOf nodes.old.items order.now }
+    requires slots { head.slots + head.parameters < 4294967295 }
+    requires bases { head.bases + head.parameters < 2 ^ 32 }
+    requires types { All (λ k. k < head.slots) (variables (type_trees types)) }
+    requires nodes { All (λ k. k < head.slots) (variables (node_types (solved_nodes solver.now.units
+        (placed_nodes nodes.old.items order.now)))) }
+    ensures { IsAnnotated (by_heads head.bases head.parameters head.slots (type_trees types)
+        (solved_nodes solver.now.units (placed_nodes nodes.old.items order.now)))
+        (map typed_node nodes.new.items) result }
+{
+    match all_solved(alloc, solver, types, order, nodes) {
+        Ok(types) => Ok(put_numbered(alloc, head, types, order, nodes)?),
         Err(stop) => Err(stop),
     }
 }
 
-/// The solved types, and after them those of the nodes, which are put in the order of the text.
+/// The solved types, and after them those of the nodes in this order, which are taken out of the nodes.
 fn all_solved(
     alloc: Global,
     solver: &Solver,
     types: Types,
+    order: &[Placed],
     nodes: &mut Vec<NodeType>,
 ) -> Result<Types, AnnotStop>
-    requires { solver.now.spent ≡ false }
-    ensures ordered { OnOk result (map typed_node nodes.new.items ≡ in_text_order (map typed_node nodes.old.items)) }
+    requires unspent { solver.now.spent ≡ false }
+    requires numbers { AreNumbersOf nodes.old.items order.now }
+    ensures count { length nodes.new.items ≡ length nodes.old.items }
     ensures solved { IfOk result (λ all. type_trees all ≡ type_trees types ++ node_types
-        (solved_nodes solver.now.units (in_text_order (map typed_node nodes.old.items)))) }
+        (solved_nodes solver.now.units (placed_nodes nodes.old.items order.now))) }
     ensures range { MatchResult result
-        (λ _. first_past (solved_nodes solver.now.units (in_text_order (map typed_node nodes.old.items))) ≡ None)
-        (StopsAt (first_past (solved_nodes solver.now.units (in_text_order (map typed_node nodes.old.items))))) }
+        (λ _. first_past (solved_nodes solver.now.units (placed_nodes nodes.old.items order.now)) ≡ None)
+        (StopsAt (first_past (solved_nodes solver.now.units (placed_nodes nodes.old.items order.now)))) }
 {
     let mut types = types;
-    match push_in_order(alloc, solver, nodes, &mut types.items) {
+    match push_solved(alloc, solver, order, nodes, &mut types.items) {
         Ok(()) => Ok(types),
         Err(stop) => {
             drop(types);
@@ -137,95 +170,83 @@ fn all_solved(
     }
 }
 
-fn push_in_order(
-    alloc: Global,
-    solver: &Solver,
-    nodes: &mut Vec<NodeType>,
-    types: &mut Vec<Ty>,
-) -> Result<(), AnnotStop>
-    requires { solver.now.spent ≡ false }
-    ensures ordered { OnOk result (map typed_node nodes.new.items ≡ in_text_order (map typed_node nodes.old.items)) }
-    ensures solved { OnOk result (map type_tree types.new.items ≡ map type_tree types.old.items ++ node_types
-        (solved_nodes solver.now.units (in_text_order (map typed_node nodes.old.items)))) }
-    ensures range { MatchResult result
-        (λ _. first_past (solved_nodes solver.now.units (in_text_order (map typed_node nodes.old.items))) ≡ None)
-        (StopsAt (first_past (solved_nodes solver.now.units (in_text_order (map typed_node nodes.old.items))))) }
-{
-    put_in_text_order(nodes)?;
-    push_solved(alloc, solver, nodes, types)
-}
-
-/// Pushes the types of the nodes with the solution put for their slots.
+/// Pushes the types of the nodes in this order, with the solution put for their slots. They are taken out of the nodes.
 fn push_solved(
     alloc: Global,
     solver: &Solver,
-    nodes: &[NodeType],
+    order: &[Placed],
+    nodes: &mut Vec<NodeType>,
     types: &mut Vec<Ty>,
 ) -> Result<(), AnnotStop>
-    requires { solver.now.spent ≡ false }
+    requires unspent { solver.now.spent ≡ false }
+    requires numbers { AreNumbersOf nodes.old.items order.now }
+    ensures count { length nodes.new.items ≡ length nodes.old.items }
     ensures solved { OnOk result (map type_tree types.new.items ≡ map type_tree types.old.items ++ node_types
-        (solved_nodes solver.now.units (map typed_node nodes.now))) }
+        (solved_nodes solver.now.units (placed_nodes nodes.old.items order.now))) }
     ensures range { MatchResult result
-        (λ _. first_past (solved_nodes solver.now.units (map typed_node nodes.now)) ≡ None)
-        (StopsAt (first_past (solved_nodes solver.now.units (map typed_node nodes.now)))) }
+        (λ _. first_past (solved_nodes solver.now.units (placed_nodes nodes.old.items order.now)) ≡ None)
+        (StopsAt (first_past (solved_nodes solver.now.units (placed_nodes nodes.old.items order.now)))) }
 {
-    for node in nodes {
-        types.push(solved_type(alloc, solver, node)?)?;
+    for placed in order {
+        let ty = mem::replace(&mut nodes[placed.node].ty, Ty::Bool);
+        types.push(solved_type(alloc, solver, placed.at, ty)?)?;
     }
     Ok(())
 }
 
-fn solved_type(alloc: Global, solver: &Solver, node: &NodeType) -> Result<Ty, AnnotStop>
+/// The type of a node at this place, with the solution put for its slots.
+fn solved_type(alloc: Global, solver: &Solver, at: u32, ty: Ty) -> Result<Ty, AnnotStop>
     requires { solver.now.spent ≡ false }
-    ensures solved { IfOk result (λ t. type_tree t ≡ put (nth solver.now.units) (type_tree node.now.ty)) }
+    ensures solved { IfOk result (λ t. type_tree t ≡ put (nth solver.now.units) (type_tree ty)) }
     ensures range { MatchResult result
-        (λ _. first_past (solved_nodes solver.now.units (typed_node node.now ∷ [])) ≡ None)
-        (StopsAt (first_past (solved_nodes solver.now.units (typed_node node.now ∷ [])))) }
+        (λ _. first_past (solved_nodes solver.now.units (node_at at (type_tree ty) ∷ [])) ≡ None)
+        (StopsAt (first_past (solved_nodes solver.now.units (node_at at (type_tree ty) ∷ [])))) }
 {
-    match solver.apply(alloc, &node.ty) {
+    match solver.apply_to(alloc, ty) {
         Ok(solved) => Ok(solved),
-        Err(ElimStop::Range) => Err(AnnotStop::PowerRange { at: node.at }),
+        Err(ElimStop::Range) => Err(AnnotStop::PowerRange { at }),
         Err(ElimStop::NoMemory) => Err(AnnotStop::NoMemory),
         Err(ElimStop::NoSolution | ElimStop::Spent) => unreachable!(),
     }
 }
 
-/// Puts the types at the nodes, which come after some types of the function, with unit parameters as variables and all
-/// variables numbered.
+/// Puts nodes in this order in place of the nodes, with the types that come after some types of the function: unit
+/// parameters become variables, and all variables are numbered.
 fn put_numbered(
     alloc: Global,
     head: Head,
-    slots: u32,
     types: Types,
+    order: &[Placed],
     nodes: &mut Vec<NodeType>,
 ) -> Result<(), AllocError>
-    requires slots { slots + head.parameters < 4294967295 }
+    requires slots { head.slots + head.parameters < 4294967295 }
     requires bases { head.bases + head.parameters < 2 ^ 32 }
-    requires variables { All (λ k. k < slots) (variables (type_trees types)) }
-    requires count { length nodes.old.items ≤ length types.items.items }
-    ensures { OnOk result ((heads : ℕ) → length types.items.items ≡ heads + length nodes.old.items
-        → map typed_node nodes.new.items ≡ retyped (map typed_node nodes.old.items)
-        (drop heads (renumbered (map (general head.bases head.parameters slots) (type_trees types))))) }
+    requires variables { All (λ k. k < head.slots) (variables (type_trees types)) }
+    requires nodes { length order.now ≡ length nodes.old.items }
+    requires count { length order.now ≤ length types.items.items }
+    ensures { OnOk result ((heads : ℕ) → length types.items.items ≡ heads + length order.now
+        → map typed_node nodes.new.items ≡ retyped (placed_nodes [] order.now)
+        (drop heads (renumbered (map (general head.bases head.parameters head.slots) (type_trees types))))) }
 {
-    let types = general_types(alloc, head.bases, head.parameters, slots, types)?;
+    let types = general_types(alloc, head.bases, head.parameters, head.slots, types)?;
     let Numbered { types, vars: _ } = renumber(alloc, types)?;
-    put_types(nodes, types);
+    put_types(order, nodes, types);
     Ok(())
 }
 
-/// Puts the last of the types at the nodes, in place of their own.
-fn put_types(nodes: &mut Vec<NodeType>, types: Types)
-    requires { length nodes.old.items ≤ length types.items.items }
-    ensures { (heads : ℕ) → length types.items.items ≡ heads + length nodes.old.items
-        → map typed_node nodes.new.items
-        ≡ retyped (map typed_node nodes.old.items) (drop heads (type_trees types)) }
+/// Puts nodes with these places and with the last of the types in place of the nodes.
+fn put_types(order: &[Placed], nodes: &mut Vec<NodeType>, types: Types)
+    requires nodes { length order.now ≡ length nodes.old.items }
+    requires count { length order.now ≤ length types.items.items }
+    ensures { (heads : ℕ) → length types.items.items ≡ heads + length order.now
+        → map typed_node nodes.new.items ≡ retyped (placed_nodes [] order.now) (drop heads (type_trees types)) }
 {
     let mut types = types.items;
-    let heads = types.len() - nodes.len();
-    for i in 0..nodes.len() {
+    let heads = types.len() - order.len();
+    for i in 0..order.len() {
         let ty = mem::replace(&mut types[heads + i], Ty::Bool);
         nodes[i] = NodeType {
-            at: nodes[i].at,
+            at: order[i].at,
             ty,
         };
     }

@@ -16,7 +16,7 @@ use Rattle.um_syntax.specs.Numeral.{Numeral, Whole, Decimal, Ratio, numerator_of
 use Rattle.um_syntax.specs.Lexing.{HasTokens}
 use Rattle.um_syntax.proofs.TokenKinds.{AllKinds, KindsHold, kinds_hold}
 use Rattle.um_unit_texts.specs.UnitTokens.{unit_token, power_from, greatest_power}
-use Rattle.um_types.specs.UnitTokens as of_unit
+use Rattle.um_unit_texts.specs.UnitTokens as of_unit
 use Rattle.um_unit_texts.specs.UnitMachine.{power_in}
 use Rattle.um_vocabulary.specs.declared.vocabulary.Keyword.{Keyword}
 use Rattle.um_vocabulary.specs.declared.vocabulary.Keyword.TheVariants as keyword

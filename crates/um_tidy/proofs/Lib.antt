@@ -7,7 +7,10 @@ pub mod Encoded
 pub mod Printed
 pub mod GapsAgain
 pub mod NearFeeds
+pub mod NearEdges
 pub mod PlacedComments
+pub mod Margins
+pub mod Whites
 pub mod GapComments
 pub mod StandAgain
 pub mod Anew

@@ -67,7 +67,7 @@ fn near_len(bytes: &[u8], from: usize) -> usize
 }
 
 /// The place of the lowest bit that is set, or 16 if none is.
-fn first_set(mask: u64) -> usize
+pub(crate) fn first_set(mask: u64) -> usize
     ensures { result ≡ if mask == 0 then 16 else trailing_zeros w64 mask }
 {
     if mask == 0 {

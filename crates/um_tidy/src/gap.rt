@@ -10,6 +10,7 @@ ghost use Rattle.um_tidy.specs.Gaps.{line_end, first_gap, inner_gap, last_gap, o
 
 use crate::comments::push_comments;
 use crate::feed::line_feed;
+use crate::white::{space_end, trimmed_len};
 use memchr::memrchr;
 use std::alloc::AllocError;
 
@@ -197,7 +198,7 @@ fn push_comment_after(text: &mut Vec<u8>, comment: &[u8]) -> Result<(), AllocErr
     text.extend_from_slice(comment)
 }
 
-fn push_blank_line(text: &mut Vec<u8>, above: Above) -> Result<(), AllocError>
+pub(crate) fn push_blank_line(text: &mut Vec<u8>, above: Above) -> Result<(), AllocError>
     ensures { OnOk result (text.new.items ≡ text.old.items ++ blank_line above) }
 {
     match above {
@@ -234,6 +235,17 @@ fn push_indentation(
 }
 
 pub(crate) fn push_spaces(text: &mut Vec<u8>, n: usize) -> Result<(), AllocError>
+    ensures { OnOk result (text.new.items ≡ text.old.items ++ spaces n) }
+{
+    let mut left = n;
+    while left >= 16 {
+        text.extend_from_slice(b"                ")?;
+        left -= 16;
+    }
+    push_some_spaces(text, left)
+}
+
+fn push_some_spaces(text: &mut Vec<u8>, n: usize) -> Result<(), AllocError>
     ensures { OnOk result (text.new.items ≡ text.old.items ++ spaces n) }
 {
     let mut left = n;
@@ -291,32 +303,6 @@ fn margin_len(line: &[u8]) -> usize
     space_end(line, 0)
 }
 
-/// Where the white space ends that stands at a place.
-pub(crate) fn space_end(bytes: &[u8], from: usize) -> usize
-    requires { from ≤ length bytes.now }
-    ensures within { (from ≤ result) × (result ≤ length bytes.now) }
-    ensures end { from + prefix_len is_space (drop from bytes.now) ≡ result }
-{
-    let mut end = from;
-    while end < bytes.len() && is_space(bytes[end]) {
-        end += 1;
-    }
-    end
-}
-
-/// How many bytes are left without the white space at the end.
-#[tactic(auto, using(crate::proofs::Trimmed::trimmed_less, crate::proofs::Trimmed::trimmed_all))]
-pub(crate) fn trimmed_len(bytes: &[u8]) -> usize
-    ensures within { result ≤ length bytes.now }
-    ensures kept { take result bytes.now ≡ trimmed bytes.now }
-{
-    let mut len = bytes.len();
-    while len > 0 && is_space(bytes[len - 1]) {
-        len -= 1;
-    }
-    len
-}
-
 /// The columns that the white space at the front takes.
 fn indent(line: &[u8], margin: usize) -> usize
     requires short { length line.now ≤ 1048576 }
@@ -328,7 +314,7 @@ fn indent(line: &[u8], margin: usize) -> usize
 }
 
 /// The columns that white space takes.
-pub(crate) fn width(space: &[u8]) -> usize
+fn width(space: &[u8]) -> usize
     requires { length space.now ≤ 1048576 }
     ensures { result ≡ width_from 0 space.now }
 {
@@ -341,10 +327,4 @@ pub(crate) fn width(space: &[u8]) -> usize
         };
     }
     width
-}
-
-pub(crate) fn is_space(byte: u8) -> bool
-    ensures { result ≡ is_space byte }
-{
-    byte == b' ' || byte == b'\t' || byte == b'\r' || byte == b'\n'
 }

@@ -6,11 +6,14 @@
 #![tactic(auto)]
 
 mod comments;
+mod edges;
 mod feed;
 mod gap;
 pub mod laws;
+mod margin;
 mod spacing;
 mod stand;
 mod text;
+mod white;
 
 pub use text::tidy_text;

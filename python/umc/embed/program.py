@@ -102,7 +102,7 @@ class Program:
         return found
 
     def __dir__(self) -> list[str]:
-        return sorted([*object.__dir__(self), *self._schemes])
+        return sorted({*object.__dir__(self), *self._schemes})
 
     def close(self) -> None:
         """Lets go of what the engine keeps."""

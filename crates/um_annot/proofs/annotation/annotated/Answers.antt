@@ -1,7 +1,9 @@
-use Rattle.std.proofs.Common.{◌≡◌, ◌+◌, ◌<◌, ◌≤◌, List, length, map, refl, sym, ap, ◌∙◌, subst, arith}
+use Rattle.std.proofs.Common.{◌<◌, List, length, map, refl, sym, ◌∙◌, subst, arith}
 use Rattle.std.specs.Prelude.{All}
+use Rattle.um_units.specs.PowerMap.{nth}
 use Rattle.um_tree.specs.ProgramTree.{SchemeTree, program_tree}
 use Rattle.um_tree.specs.Scheme.{signature_types, variables}
+use Rattle.um_tree.specs.Typing.{put}
 use Rattle.um_elim.specs.Solution.{rigid_units}
 use Rattle.um_rows.specs.Answers.{rows_signature}
 use Rattle.um_rows.specs.FirstUnsolvable.{solve}
@@ -39,7 +41,8 @@ annotated_with-requires-clause-slots c =
     let one = c.requires.solved.2 w.0 w.1 in
     let slots = few p formed c.requires.solved.0 c.requires.solved.1 c.args.i c.requires.function w.0 w.1 c.args.solved.now.typed.rows one.equations in
     let inside = within p formed c.requires.solved.0 c.requires.solved.1 c.args.i c.requires.function w.0 w.1 c.args.solved.now.typed.rows one.equations c.head_of-head.result.parameters (c.head_of-head.ensures.function w.0 w.1).0 in
-    omega (arith, slots, inside)
+    let same = c.head_of-head.ensures.slots in
+    omega (arith, slots, inside, same)
 
 pub annotated_with-requires-clause-bases : goal.annotated_with-requires-clause-bases
 annotated_with-requires-clause-bases c =
@@ -61,8 +64,8 @@ annotated_with-requires-clause-types c =
     let rows = c.args.solved.now.typed.rows in
     let ts = signature_types (rows_signature rows) in
     let low = types_low p formed c.requires.solved.0 c.requires.solved.1 c.args.i c.requires.function w.0 w.1 rows one.equations in
-    subst (λ us. All (λ k. k < rows.slots) (variables us)) (sym c.in-Ok.ensures)
-    (puts_below rows.slots c.args.solved.now.solver.units one.solution.below ts (subst (λ m. All (λ k. k < m) (variables ts)) (sym one.solution.count) low))
+    rw c.head_of-head.ensures.slots (subst (λ us. All (λ k. k < rows.slots) (variables us)) (sym c.in-Ok.ensures)
+    (puts_below rows.slots c.args.solved.now.solver.units one.solution.below ts (subst (λ m. All (λ k. k < m) (variables ts)) (sym one.solution.count) low)))
 
 pub annotated_with-requires-clause-nodes : goal.annotated_with-requires-clause-nodes
 annotated_with-requires-clause-nodes c =
@@ -73,7 +76,7 @@ annotated_with-requires-clause-nodes c =
     let rows = c.args.solved.now.typed.rows in
     let ns = typed_nodes c.args.solved.now.typed.nodes in
     let low = nodes_low p formed c.requires.solved.0 c.requires.solved.1 c.args.i c.requires.function w.0 w.1 rows one.equations ns one.nodes in
-    solved_below rows.slots c.args.solved.now.solver.units one.solution.below ns (subst (λ m. All (λ k. k < m) (variables (node_types ns))) (sym one.solution.count) low)
+    rw c.head_of-head.ensures.slots (solved_below rows.slots c.args.solved.now.solver.units one.solution.below ns (subst (λ m. All (λ k. k < m) (variables (node_types ns))) (sym one.solution.count) low))
 
 pub returns-in-Ok : goal.returns-in-Ok
 returns-in-Ok c = λ schemes f inferred declared.
@@ -87,7 +90,8 @@ returns-in-Ok c = λ schemes f inferred declared.
     let ordered = in_text_order (typed_nodes solved.typed.nodes) in
     let made = map typed_node c.annotated_with.new.nodes.items in
     let units = solved.solver.units in
-    let own = subst (λ ts. IsAnnotated (by_heads h.bases h.parameters rows.slots ts (solved_nodes units ordered)) made c.annotated_with.result) c.in-Ok.ensures c.annotated_with.ensures in
+    let heads = subst (λ ts. IsAnnotated (by_heads h.bases h.parameters h.slots ts (solved_nodes units ordered)) made c.annotated_with.result) c.in-Ok.ensures c.annotated_with.ensures in
+    let own = subst (λ n. IsAnnotated (by_heads h.bases h.parameters n (map (put (nth units)) (signature_types (rows_signature rows))) (solved_nodes units ordered)) made c.annotated_with.result) c.head_of-head.ensures.slots heads in
     let place = (c.head_of-head.ensures.function f declared).0 in
     let count = c.head_of-head.ensures.bases in
     let solves = (λ j. solve 0 rows.list.items.items (rigid_units (count j) (place j) rows.slots)) ∙ one.solution.solves in

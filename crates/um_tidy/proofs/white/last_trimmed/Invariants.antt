@@ -1,0 +1,12 @@
+use Rattle.std.proofs.Common.{◌≡◌, ◌≤◌, length, take}
+use Rattle.um_tidy.specs.Gaps.{trimmed}
+use Rattle.um_tidy.proofs.white.last_trimmed.Given as goal
+
+abbrev pub invariant-loop-len : goal.invariant-loop-len
+invariant-loop-len l = record {
+  within : l.len ≤ length l.bytes;
+  so_far : trimmed (take l.len l.bytes) ≡ trimmed l.bytes;
+}
+
+abbrev pub decreases-loop-len : goal.decreases-loop-len
+decreases-loop-len l = l.len
