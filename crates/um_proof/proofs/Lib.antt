@@ -1,12 +1,12 @@
 mod General
 mod HeldVariables
-mod Renamed
-mod FunctionRows
-mod FunctionAnswers
+pub mod Renamed
+pub mod FunctionRows
+pub mod FunctionAnswers
 mod WayBackSteps
 mod Closed
 mod DeclaredUnits
-mod Judged
-mod ValidYes
-mod ValidNo
+pub mod Judged
+pub mod ValidYes
+pub mod ValidNo
 pub mod CertifiedTypings

@@ -6,7 +6,7 @@ use Rattle.std.proofs.lemmas.List.{drop_more}
 use Rattle.um_units.specs.declared.Term.{Term}
 use Rattle.um_units.specs.Atoms.{is_before}
 use Rattle.um_units.specs.NormalForm.{head_before_all}
-use Rattle.um_units.specs.Range.{in_range, all_in_range, IsKept}
+use Rattle.um_units.specs.Range.{in_range, IsKept}
 use Rattle.um_units.specs.Terms.{is_before_all, is_normal, is_zero}
 use Rattle.um_units.proofs.MergeLemmas.{before_all-cons}
 

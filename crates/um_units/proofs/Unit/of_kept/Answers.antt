@@ -1,6 +1,5 @@
-use Rattle.std.proofs.Common.{◌∙◌, sym, ap, subst}
-use Rattle.um_units.specs.PowerMap.{product}
-use Rattle.um_units.specs.Range.{all_in_range, IsKept}
+use Rattle.std.proofs.Common.{◌∙◌, ap}
+use Rattle.um_units.specs.Range.{all_in_range}
 use Rattle.um_units.proofs.Equality.{product-normal}
 use Rattle.um_units.proofs.Unit.of_kept.Goals as goal
 

@@ -1,4 +1,4 @@
-use Rattle.std.proofs.Common.{◌≡◌, ◌≤◌, ◌<◌, ◌-◌, [], ◌∷◌, List, length, pos, drop, get_or, refl, sym, ap, ◌∙◌, subst, rules, arith}
+use Rattle.std.proofs.Common.{◌≡◌, ◌-◌, ◌∷◌, length, pos, drop, take, take_all, get_or, refl, sym, subst, rules, arith, length-drop}
 use Rattle.std.specs.Prelude.{IsTrue}
 use Rattle.std.proofs.lemmas.List.{drop_all}
 use Rattle.um_units.specs.declared.Atom.TheVariants.{Base}
@@ -23,9 +23,10 @@ loop-k-preserved c =
     let some = c.loop-k-test.true in
     let within = c.loop-k.invariant.within in
     let yes : IsTrue c.goes_first.result = search rules in
+    let rest : take (length ts - k) (drop k ts) ≡ drop k ts = take_all (length ts - k) (drop k ts) (omega (arith, length-drop k ts)) in
     record {
       within = omega (arith, within);
-      kept = kept_more ts k none some within (c.goes_first.ensures yes);
+      kept = kept_more ts k none some within (subst (λ others. IsKept (get_or ts (k - 1) none ∷ others)) rest (c.goes_first.ensures yes));
     }
 
 pub returns : goal.returns

@@ -1,4 +1,4 @@
-use Rattle.std.proofs.Common.{◌≡◌, ◌<◌, ◌∷◌, [], List, length, pos, get_or, refl, sym, ap, ◌∙◌, subst, rules, arith}
+use Rattle.std.proofs.Common.{◌<◌, ◌∷◌, List, length, pos, sym, subst, rules}
 use Rattle.std.specs.Prelude.{IsTrue}
 use Rattle.um_units.specs.declared.Atom.TheVariants.{Base}
 use Rattle.um_units.specs.declared.Term.{Term}
