@@ -1,8 +1,7 @@
 //! The law that all words and bytes have an answer. A call does nothing: what it ensures is the law.
 ghost use Rattle.um_all_answers.specs.Laws.{EachIsAnswered};
 
-/// All words have an answer other than want of memory about all bytes, if they name no order, or one other than
-/// `prove`, of which it isn't proved.
+/// All words have an answer other than want of memory about all bytes.
 pub fn each_is_answered()
     ensures { EachIsAnswered }
 {
@@ -12,5 +11,6 @@ pub fn each_is_answered()
     um_each_reason::laws::refusals_have_reasons();
     um_each_answer::laws::answers_exist();
     um_text_images::laws::images_are_written();
+    um_text_proofs::laws::texts_are_proved();
     um_each_call::laws::calls_are_answered();
 }

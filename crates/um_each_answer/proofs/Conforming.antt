@@ -2,13 +2,13 @@
 use Rattle.std.proofs.Common.{◌≡◌, ◌≢◌, inl, inr, ℕ, ◌≤◌, ◌<◌, List, ◌++◌, codes, length, MatchOption, Option, Some, None, refl, sym, ap, subst, arith}
 use Rattle.std.specs.Prelude.{slice_get, Result, Ok, Err}
 use Rattle.std.proofs.lemmas.List.{length-map}
-use Rattle.std.proofs.lemmas.Option.{slice_get_cases}
 use Rattle.um_syntax.specs.Laws.{EachTextIsAnswered}
 use Rattle.um_tree.specs.TypeTree.{TypeTree, type_trees}
 use Rattle.um_tree.specs.ProgramTree.{FunctionTree}
 use Rattle.um_parse.specs.Laws.{EachListIsAnswered}
 use Rattle.um_measures.specs.Known.{number_of, function_names}
 use Rattle.um_measures.proofs.NameLists.{number_of-below}
+use Rattle.um_infer.proofs.SchemeLists.{item_at}
 use Rattle.um_infer.specs.Laws.{SlotStopsAreExact, RangeStopsAreExact, UnitStopsAreExact, NotGeneralStopsAreExact}
 use Rattle.um_sig.specs.declared.signature.Signature.{Signature}
 use Rattle.um_sig.specs.declared.stop.SigText.{SigText}
@@ -42,13 +42,6 @@ verdict_told name (Err (sig_stop.Form index)) some = (difference_line (codes "fo
 verdict_told name (Err (sig_stop.Units index)) some = (difference_line (codes "units") name index, NotConform, (refl, refl))
 verdict_told name (Err (sig_stop.Range index)) some = (line (codes "error 10: power range of the signature"), PowerRange, (refl, refl))
 verdict_told name (Err sig_stop.NoMemory) some = absurd (some refl)
-
-item_at : {A : Type 0} (xs : List A) (k : ℕ) → k < length xs → (x : A) × (slice_get xs k ≡ Some x)
-item_at xs k below =
-    elim (slice_get_cases xs k).1 [
-      | inl w ↦ (w.0, w.2)
-      | inr w ↦ let past = w.0 in absurd (omega (arith, below, past))
-    ]
 
 module _ (each : EachTextIsAnswered) (name word : List ℕ) (short : length word ≤ 1048576) (bytes : List ℕ) (c : CheckedTree) (many : length c.schemes ≡ length c.text.program.functions) where
   module _ (k : ℕ) (below : k < length c.text.program.functions) where

@@ -3,8 +3,6 @@
 use Rattle.std.proofs.Common.{◌≡◌, ◌≢◌, ◌⊎◌, inl, inr, ℕ, zero, suc, ◌+◌, ◌-◌, ◌*◌, ◌≤◌, ◌<◌, ◌^◌, List, [], ◌∷◌, ◌++◌, length, map, Option, Some, None, refl, sym, ap, ◌∙◌, arith, length-append}
 use Rattle.std.specs.Prelude.{Result, Ok, Err}
 use Rattle.std.specs.Str.{chars, chars_after, continuation_len, lead_bits}
-use Rattle.std.proofs.lemmas.List.{length-map}
-use denote.RawPtr.{null_ptr}
 use Rattle.um_syntax.specs.declared.token.Token.{Token}
 use Rattle.um_syntax.specs.declared.token.Kind.{Kind}
 use Rattle.um_syntax.specs.declared.token.Kind.TheVariants as kind
@@ -15,9 +13,7 @@ use Rattle.um_syntax.specs.Lexing.{HasTokens, HasFault}
 use Rattle.um_syntax.specs.Laws.{EachTextIsAnswered}
 use Rattle.um_syntax.proofs.TokenCounts.{tokens_within}
 use Rattle.um_tree.specs.RawTree.{TypeSyntax}
-use Rattle.um_tree.specs.declared.types.Ty.{Ty, Bool as Bool-type, Num as Num-type, List' as List-type, Rec as Rec-type}
-use Rattle.um_tree.specs.declared.types.Types.{Types}
-use Rattle.um_tree.specs.TypeTree.{TypeTree, bool_type, num_type, list_type, record_type, type_tree}
+use Rattle.um_tree.specs.TypeTree.{TypeTree}
 use Rattle.um_tree.specs.ProgramTree.{ProgramTree, SchemeTree}
 use Rattle.um_reader.specs.Machine.{runs, reached}
 use Rattle.um_reader.specs.ReadTo.{ReadAll}
@@ -49,6 +45,7 @@ use Rattle.um_sig.specs.Answers.{IsConformed}
 use Rattle.um_sig.proofs.FormLaws.{form-same, same-form}
 use Rattle.um_sig.proofs.NeverTwice.{signature_is_never_twice}
 use Rattle.um_each_answer.proofs.Texts.{on_test, no_memory}
+use Rattle.um_each_answer.proofs.Values.{kept_are, kept_types}
 
 -- ---- a signature has no more types than its text has bytes
 
@@ -135,40 +132,6 @@ resolved_many known ts s e = by (all_type_names known (signature_variables ts) t
 is_nothing : (s : SignatureState) → (s ≡ NoSignature) ⊎ (s ≢ NoSignature)
 is_nothing NoSignature = inl refl
 is_nothing (InType earlier type) = inr (λ e. cc e)
-
--- ---- types as the code keeps them
-
-kept_type : TypeTree → Ty
-kept_type bool_type = Bool-type
-kept_type (num_type u) = Num-type u
-kept_type (list_type t) = List-type (record { ptr = null_ptr; alloc = record { memory = record { seal = tt } }; value = tt }) (kept_type t)
-kept_type (record_type r us) = Rec-type r us
-
-kept_is : (t : TypeTree) → type_tree (kept_type t) ≡ t
-kept_is bool_type = refl
-kept_is (num_type u) = refl
-kept_is (list_type t) = ap list_type (kept_is t)
-kept_is (record_type r us) = refl
-
-kept_are : (ts : List TypeTree) → map type_tree (map kept_type ts) ≡ ts
-kept_are [] = refl
-kept_are (t ∷ ts) = λ i. kept_is t i ∷ kept_are ts i
-
-kept_types : (ts : List TypeTree) → length ts < 2 ^ 63 → Types
-kept_types ts few =
-    let items = map kept_type ts in
-    let long = length-map ts kept_type in
-    record {
-      items = record {
-        ptr = null_ptr;
-        len = length items;
-        cap = length items;
-        alloc = record { memory = record { seal = tt } };
-        items = items;
-        ok = (refl, omega arith);
-        small = omega (arith, few, long);
-      };
-    }
 
 -- ---- the text of a signature
 

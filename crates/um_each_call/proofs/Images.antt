@@ -18,6 +18,7 @@ use Rattle.um_image.specs.declared.stop.DecodeStop.TheVariants as decode_stop
 use Rattle.um_image.specs.ProgramImage.{type_of_shape}
 use Rattle.um_image.specs.Places.{IsWritable}
 use Rattle.um_image.specs.Laws.{BytesAreAnswered}
+use Rattle.um_infer.proofs.SchemeLists.{item_at}
 use Rattle.um_run.specs.declared.call.CallRefusal.{CallRefusal}
 use Rattle.um_run.specs.declared.call.CallRefusal.TheVariants as refusal
 use Rattle.um_run.specs.ImageCalls.{image_program, known_in, head_names, ImageCallTree, IsNamedHead, image_call_values, IsImageCallOf}
@@ -33,7 +34,7 @@ use Rattle.um_each_answer.proofs.Answers.{Told}
 use Rattle.um_each_image.specs.Laws.{ImagesAreVerifiedOrRefused}
 use Rattle.um_each_call.specs.Laws.{ImagesHaveAnswers}
 use Rattle.um_each_call.proofs.Arguments.{AreShapesIn, InputsOrRefusal, inputs_or_refusal}
-use Rattle.um_each_call.proofs.Named.{same_count, other_count, item_at}
+use Rattle.um_each_call.proofs.Named.{same_count, other_count}
 use Rattle.um_each_call.proofs.Outcomes.{outcome_told}
 use Rattle.um_each_call.proofs.Calls.{argument_told}
 

@@ -4,7 +4,6 @@ use Rattle.std.specs.Prelude.{slice_get, Result, Ok, Err}
 use Rattle.std.proofs.lemmas.Bool.Decides.{nat_tests}
 use Rattle.std.proofs.lemmas.List.{length-map}
 use Rattle.std.proofs.lemmas.List.Elements.{All-head, All-tail}
-use Rattle.std.proofs.lemmas.Option.{slice_get_cases}
 use Rattle.um_syntax.specs.Laws.{EachTextIsAnswered}
 use Rattle.um_tree.specs.TypeTree.{NoteTree, bool_note, num_note, list_note, record_note}
 use Rattle.um_tree.specs.ValueTree.{InputTree, inputs_in_order}
@@ -20,6 +19,7 @@ use Rattle.um_value.specs.ValueGrammar.{IsShapeIn}
 use Rattle.um_rows.specs.Judgement.{Judgement, has_scheme, too_many_slots, passes_range, has_no_typing, not_general}
 use Rattle.um_infer.specs.CallJudgement.{judge_call}
 use Rattle.um_infer.proofs.CallTypes.{call_is_general}
+use Rattle.um_infer.proofs.SchemeLists.{item_at}
 use Rattle.um_run.specs.declared.call.CallRefusal.{CallRefusal}
 use Rattle.um_run.specs.declared.call.CallRefusal.TheVariants as refusal
 use Rattle.um_run.specs.Calls.{CallTree, AreInputs, parameter_shapes, IsNamed, IsCallOf}
@@ -39,13 +39,6 @@ same_count n m t = grind (arith, nat_tests)
 
 pub other_count : (n m : ℕ) → nat_eq n m ≡ false → n ≢ m
 other_count n m t e = grind (arith, nat_tests)
-
-pub item_at : {A : Type 0} (xs : List A) (k : ℕ) → k < length xs → (x : A) × (slice_get xs k ≡ Some x)
-item_at xs k below =
-    elim (slice_get_cases xs k).1 [
-      | inl w ↦ (w.0, w.2)
-      | inr w ↦ let past = w.0 in absurd (omega (arith, below, past))
-    ]
 
 module _ (each : EachTextIsAnswered) (p : ProgramTree) (shorts : List Abbreviation) (schemes : List SchemeTree) (formed : IsFormed p) where
   shapes_in : (f : FunctionTree) (notes : List NoteTree) → All (IsFormedNote p f) notes → AreShapesIn each (given p shorts) formed (map note_shape notes)
