@@ -1,6 +1,6 @@
--- Rows that are judged to have a scheme have a valid certificate of it, unless a number passes.
-use Rattle.std.proofs.Common.{◌≡◌, ◌≢◌, ◌⊎◌, inl, inr, ℕ, ◌+◌, ◌-◌, ◌<◌, ◌≤◌, ◌^◌, true, false, cond, List, [], ◌∷◌, ◌++◌, map, length, get_or, ℤ, pos, Result, Ok, Err, refl, sym, ap, ◌∙◌, subst, arith, length-append}
-use Rattle.std.specs.Prelude.{All, IsTrue, nat_eq, slice_index_or}
+-- Rows that are judged to have a scheme have a valid and tidy certificate of it, unless a number passes.
+use Rattle.std.proofs.Common.{◌≡◌, ◌≢◌, ◌⊎◌, inl, inr, ℕ, zero, suc, ◌+◌, ◌-◌, ◌<◌, ◌≤◌, ◌^◌, true, false, cond, List, [], ◌∷◌, ◌++◌, map, length, get_or, ℤ, pos, Result, Ok, Err, refl, sym, ap, ◌∙◌, subst, arith, length-append}
+use Rattle.std.specs.Prelude.{All, IsTrue, IfOk, nat_eq, slice_index_or}
 use Rattle.std.specs.List.{range_with_len}
 use Rattle.std.proofs.lemmas.Bool.{and_parts, ltb-true}
 use Rattle.std.proofs.lemmas.List.{length-map, get_or-map, get_or-append_right, get_or_append_left}
@@ -15,7 +15,9 @@ use Rattle.um_units.specs.Terms.{power_in, is_normal, is_zero}
 use Rattle.um_units.specs.PowerMap.{PowerMap, product, power_of, one, atom, replace, nth}
 use Rattle.um_units.specs.Variables.{VariablesBelow, atom_below, variables_below}
 use Rattle.um_units.proofs.Equality.{power_in-head, power_in-tail, product-of_terms}
+use Rattle.um_units.proofs.Group.{power_of-other_atom}
 use Rattle.um_units.proofs.Variables.{variables_below-from_VariablesBelow}
+use Rattle.um_tree.specs.Formed.{BasesBelow}
 use Rattle.um_tree.specs.ProgramTree.{Signature, SchemeTree}
 use Rattle.um_elim.specs.Numbering.{place, by_place, renumbered}
 use Rattle.um_elim.proofs.Cases.{on_test}
@@ -30,6 +32,7 @@ use Rattle.um_wide.specs.Room.{IsNarrow}
 use Rattle.um_check.specs.declared.certificate.Part.{Part}
 use Rattle.um_check.specs.declared.certificate.Yes.{Yes}
 use Rattle.um_check.specs.Combination.{NamesRowsBelow}
+use Rattle.um_check.specs.Tidy.{AreTidyParts, IsTidyYes}
 use Rattle.um_check.specs.Validity.{returned}
 use Rattle.um_check.specs.Existence.{exponents}
 use Rattle.um_kept.specs.declared.kept.Head.{Head}
@@ -38,12 +41,14 @@ use Rattle.um_kept.specs.declared.stop.CertStop.{CertStop}
 use Rattle.um_kept.specs.declared.stop.CertStop.TheVariants as stop
 use Rattle.um_kept.specs.Kept.{Kept, IsReached, first, first_back}
 use Rattle.um_kept.specs.Answers.{Agrees, back_at}
+use Rattle.um_kept.proofs.TidyParts.{tidy_parts}
 use Rattle.um_kept.proofs.WayBack.{parameter_range}
 use Rattle.um_kept.proofs.Reached.{ReachedState, reached_state}
 use Rattle.um_proof.specs.Answers.{AreFunctionRows, judged, IsYesMade}
 use Rattle.um_proof.specs.Renaming.{is_listed, to_number, GoBack, general_units, held_variables, certificate_order}
 use Rattle.um_proof.proofs.Judged.{judged_solved}
 use Rattle.um_proof.proofs.Renamed.{are_numbered}
+use Rattle.um_proof.proofs.TidyYes.{tidy_yes}
 use Rattle.um_proof.proofs.ValidYes.{head, valid_yes, end_passes}
 use Rattle.um_text_proofs.proofs.Narrow.{IsPastAmong, AreNarrow, all_narrow_or_past}
 use Rattle.um_text_proofs.proofs.Rows.{IsAfter, Passes, Ends, rows_end}
@@ -104,6 +109,10 @@ pub parts_named : (n : ℕ) (u : PowerMap) → IsClosed u → VariablesBelow n u
 parts_named n u closed below =
     rows_below n (parts_of u) (subst (λ ts. IsTrue (variables_below n ts)) (sym (same_terms u.terms u.normal closed)) (variables_below-from_VariablesBelow n u below))
 
+pub parts_tidy : (n : ℕ) (u : PowerMap) → n ≤ 4294967295 → IsClosed u → VariablesBelow n u → AreTidyParts (parts_of u)
+parts_tidy n u few closed below =
+    tidy_parts n (parts_of u) few (subst (λ ts. IsTrue (is_normal ts)) (sym (same_terms u.terms u.normal closed)) u.normal) (parts_named n u closed below)
+
 all_exponents : (us : List PowerMap) → All IsClosed us → map exponents (map parts_of us) ≡ us
 all_exponents [] closed = refl
 all_exponents (u ∷ us) closed =
@@ -115,6 +124,12 @@ all_named n (u ∷ us) closed below =
     All-cons (NamesRowsBelow n) (parts_of u) (map parts_of us) (parts_named n u (All-head IsClosed u us closed) (All-head (VariablesBelow n) u us below))
     (all_named n us (All-tail IsClosed u us closed) (All-tail (VariablesBelow n) u us below))
 
+all_tidy : (n : ℕ) (us : List PowerMap) → n ≤ 4294967295 → All IsClosed us → All (VariablesBelow n) us → All AreTidyParts (map parts_of us)
+all_tidy n [] few closed below = All-nil AreTidyParts
+all_tidy n (u ∷ us) few closed below =
+    All-cons AreTidyParts (parts_of u) (map parts_of us) (parts_tidy n u few (All-head IsClosed u us closed) (All-head (VariablesBelow n) u us below))
+    (all_tidy n us few (All-tail IsClosed u us closed) (All-tail (VariablesBelow n) u us below))
+
 -- ---- the way back from numbered variables
 
 goes_back : (order held : List ℕ) (back : List PowerMap) → All (λ k. IsTrue (is_listed order k)) held → GoBack order held back (map (nth back) order)
@@ -124,6 +139,18 @@ goes_back order (k ∷ held) back listed =
     let here = get_or-map (nth back) order (place order k) 0 (atom (Var (place order k))) (place-low order k member) ∙ ap (nth back) (at-place order k member) in
     All-cons (λ k. nth (map (nth back) order) (place order k) ≡ nth back k) k held here
     (goes_back order held back (All-tail (λ k. IsTrue (is_listed order k)) k held listed))
+
+variable_declared : (n k : ℕ) → BasesBelow n (atom (Var k))
+variable_declared n k m held = absurd (held (power_of-other_atom (Base m) (Var k) refl))
+
+way_declared : (n : ℕ) (ways : List PowerMap) (k : ℕ) (other : PowerMap) → BasesBelow n other → All (BasesBelow n) ways → BasesBelow n (get_or ways k other)
+way_declared n [] k other low all = low
+way_declared n (u ∷ us) zero other low all = All-head (BasesBelow n) u us all
+way_declared n (u ∷ us) (suc k) other low all = way_declared n us k other low (All-tail (BasesBelow n) u us all)
+
+ways_declared : (n : ℕ) (ways : List PowerMap) (order : List ℕ) → All (BasesBelow n) ways → All (BasesBelow n) (map (nth ways) order)
+ways_declared n ways [] all = All-nil (BasesBelow n)
+ways_declared n ways (k ∷ order) all = All-cons (BasesBelow n) (nth ways k) (map (nth ways) order) (way_declared n ways k (atom (Var k)) (variable_declared n k) all) (ways_declared n ways order all)
 
 module _ (bases parameters : ℕ) (r : Rows) (asked : AreFunctionRows bases parameters r) (at : ℕ) (s : SchemeTree) (so : judged bases parameters at r ≡ has_scheme s) where
   abbrev rows : List PowerMap
@@ -146,6 +173,7 @@ module _ (bases parameters : ℕ) (r : Rows) (asked : AreFunctionRows bases para
     pub result : Result Yes CertStop
     pub some : result ≢ Err stop.NoMemory
     pub made : IsYesMade bases parameters r s result
+    pub tidy : All (BasesBelow bases) (units_of r.list.items.items) → IfOk result (IsTidyYes bases parameters)
 
   long : length rows ≡ number
   long = length-map r.list.items.items (λ (row : Row). row.unit)
@@ -294,7 +322,10 @@ module _ (bases parameters : ℕ) (r : Rows) (asked : AreFunctionRows bases para
     valid all = record {
       result = Ok certificate;
       some = λ e. cc e;
-      made = valid_yes bases parameters r asked partial kept agrees reached at s so way back parts (all_exponents powers powers_closed) (all_named number powers powers_closed powers_below) all certificate refl refl refl refl refl refl;
+      made = valid_yes bases parameters r asked partial kept agrees reached at s so way back parts (all_exponents powers powers_closed) (all_named number powers powers_closed powers_below) all certificate refl refl refl (length-map order (nth ways)) refl refl refl;
+      tidy = λ declared.
+          tidy_yes bases parameters r.slots rows number kept reached declared partial agrees order way (λ n all. ways_declared n ways order all) certificate refl refl
+          (all_tidy number powers asked.number powers_closed powers_below) refl;
     }
 
     past : IsPastAmong (returned solution way) (length solution) → IsCertified
@@ -302,6 +333,7 @@ module _ (bases parameters : ℕ) (r : Rows) (asked : AreFunctionRows bases para
       result = Err (stop.CertRange w.past.number);
       some = λ e. cc e;
       made = end_passes bases parameters r asked partial kept agrees reached at s so way back (stop.CertRange w.past.number) (w.index, w.within, w.past.stands, w.past.passes);
+      tidy = λ declared. tt;
     }
 
     by_return : IsCertified
@@ -312,7 +344,7 @@ module _ (bases parameters : ℕ) (r : Rows) (asked : AreFunctionRows bases para
         ]
 
   of_passes : Passes rows starts → IsCertified
-  of_passes w = record { result = Err (stop.CertRange w.number); some = λ e. cc e; made = inl w.passes }
+  of_passes w = record { result = Err (stop.CertRange w.number); some = λ e. cc e; made = inl w.passes; tidy = λ declared. tt }
 
   pub certified : IsCertified
   certified =

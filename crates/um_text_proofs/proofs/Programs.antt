@@ -1,6 +1,6 @@
 -- A formed program with its shapes has its certificates, or a number passes in making them.
 use Rattle.std.proofs.Common.{◌≡◌, ◌≢◌, ◌⊎◌, inl, inr, ℕ, zero, suc, ◌+◌, ◌<◌, ◌≤◌, ◌^◌, true, false, List, [], ◌∷◌, ◌++◌, map, length, slice_get, ℤ, Option, Some, None, Result, Ok, Err, refl, sym, ap, ◌∙◌, subst, arith, length-append}
-use Rattle.std.specs.Prelude.{IfOk, IfErr}
+use Rattle.std.specs.Prelude.{All, IfOk, IfErr}
 use Rattle.std.proofs.lemmas.List.{length-map}
 use Rattle.std.proofs.lemmas.Option.{slice_get_within}
 use Rattle.um_units.specs.PowerMap.{PowerMap, nth}
@@ -8,7 +8,7 @@ use Rattle.um_tree.specs.declared.program.Scheme.{Scheme}
 use Rattle.um_tree.specs.TypeTree.{TypeTree, NoteTree}
 use Rattle.um_tree.specs.ProgramTree.{FunctionTree, ProgramTree, Signature, SchemeTree, scheme_tree}
 use Rattle.um_tree.specs.Typing.{put, put_signature, moved}
-use Rattle.um_tree.specs.Formed.{IsFormed}
+use Rattle.um_tree.specs.Formed.{BasesBelow, IsFormed}
 use Rattle.um_tree.specs.Shapes.{IsShaped}
 use Rattle.um_tree.specs.Scheme.{signature_types}
 use Rattle.um_elim.specs.Numbering.{variable_order, by_place}
@@ -17,7 +17,7 @@ use Rattle.um_slots.specs.Holes.{note_holes}
 use Rattle.um_slots.specs.Slots.{slot_count}
 use Rattle.um_equal_types.specs.declared.row.Row.{Row}
 use Rattle.um_equal_types.specs.declared.row.Rows.{Rows}
-use Rattle.um_equal_types.specs.Steps.{rows_of, first_past}
+use Rattle.um_equal_types.specs.Steps.{rows_of, units_of, first_past}
 use Rattle.um_rows.specs.Equations.{slot_equations}
 use Rattle.um_rows.specs.Solutions.{slot_signature}
 use Rattle.um_rows.specs.Answers.{rows_signature, AreEquations}
@@ -30,15 +30,16 @@ use Rattle.um_infer.proofs.InferenceLaws.{first_are_principal}
 use Rattle.um_infer.proofs.SchemeJudgements.{HasJudgement, schemes_until, scheme_judgement, yes_judged}
 use Rattle.um_check.specs.declared.certificate.Yes.{Yes}
 use Rattle.um_check.specs.declared.certificate.No.{No}
-use Rattle.um_declared.proofs.Inferred.{rows_are_few}
+use Rattle.um_check.specs.Tidy.{IsTidyYes, IsTidyNo}
+use Rattle.um_declared.proofs.Inferred.{rows_are_few, rows_hold_declared_units}
 use Rattle.um_kept.specs.declared.stop.CertStop.{CertStop}
 use Rattle.um_kept.specs.declared.stop.CertStop.TheVariants as stop
 use Rattle.um_proof.specs.declared.proofs.Proofs.{Proofs}
 use Rattle.um_proof.specs.declared.stop.ProveStop.{ProveStop}
 use Rattle.um_proof.specs.declared.stop.ProveStop.TheVariants as prove
 use Rattle.um_proof.specs.Answers.{AreFunctionRows, judged, IsYesMade, IsNoMade}
-use Rattle.um_proof.specs.Proving.{IsYesOf, IsRefusal, IsWithinLimits, PassesInFunction, AreProofs, IsProved}
-use Rattle.um_proof.specs.ProgramSteps.{HaveInferred, IsFirstRefused, AreYesOf}
+use Rattle.um_proof.specs.Proving.{IsYesOf, IsRefusal, IsWithinLimits, PassesInFunction, AreProofs, AreTidyProofs, IsProved}
+use Rattle.um_proof.specs.ProgramSteps.{HaveInferred, IsFirstRefused, AreYesOf, AreTidyYes}
 use Rattle.um_proof.proofs.FunctionRows.{are_function_rows}
 use Rattle.um_proof.proofs.FunctionAnswers.{same_item, yes_valid, yes_range, refused_function, refused_inside, refused_judgement, no_refused, no_valid, no_range, within_limits, refused_within}
 use Rattle.um_proof.proofs.Judged.{judged_solved}
@@ -89,6 +90,12 @@ yes_more p schemes list c valid last = λ i f s d g h at. elim (item_or_last lis
       subst (λ (y : Yes). IsYesOf p schemes i f s y) w.1 (subst (λ n. IsYesOf p schemes n f s c) (sym q) (last f s (ap (slice_get p.functions) (sym q) ∙ g) (ap (slice_get schemes) (sym q) ∙ h)))
 ]
 
+tidy_more : (p : ProgramTree) (list : List Yes) (c : Yes) → AreTidyYes p list → ((f : FunctionTree) → slice_get p.functions (length list) ≡ Some f → IsTidyYes (length p.bases) f.units c) → AreTidyYes p (list ++ c ∷ [])
+tidy_more p list c tidy last = λ i f d g at. elim (item_or_last list c i d at) [
+  | inl there ↦ tidy i f d g there
+  | inr w ↦ subst (λ (y : Yes). IsTidyYes (length p.bases) f.units y) w.1 (last f (ap (slice_get p.functions) (sym w.0) ∙ g))
+]
+
 module _ (p : ProgramTree) (formed : IsFormed p) (shaped : IsShaped p) where
   abbrev bases : ℕ
   bases = length p.bases
@@ -129,6 +136,9 @@ module _ (p : ProgramTree) (formed : IsFormed p) (shaped : IsShaped p) where
       result = kept_is (slot_equations p.records schemes i f).result;
     }
 
+    declared_units : All (BasesBelow bases) (units_of (rows_of (slot_equations p.records schemes i f).steps))
+    declared_units = rows_hold_declared_units p n schemes i f formed shaped few before until declared
+
     asked : AreFunctionRows bases f.units equations
     asked = are_function_rows p schemes i f equations formed shaped (schemes_until p formed n i schemes few until before) (n, until, few, before) declared are
 
@@ -140,6 +150,7 @@ module _ (p : ProgramTree) (formed : IsFormed p) (shaped : IsShaped p) where
     record HasYes (i : ℕ) : Type 0 where
       certificate : Yes
       valid : (f : FunctionTree) (s : SchemeTree) → slice_get p.functions i ≡ Some f → slice_get schemes i ≡ Some s → IsYesOf p schemes i f s certificate
+      tidy : (f : FunctionTree) → slice_get p.functions i ≡ Some f → IsTidyYes bases f.units certificate
 
     module _ (i : ℕ) (inside : i < n) (f : FunctionTree) (declared : slice_get p.functions i ≡ Some f) (s : SchemeTree) (at : slice_get schemes i ≡ Some s) where
       j : HasJudgement bases p.records schemes i f (has_scheme s)
@@ -157,19 +168,20 @@ module _ (p : ProgramTree) (formed : IsFormed p) (shaped : IsShaped p) where
       so : judged bases f.units f.at r ≡ has_scheme s
       so = yes_judged p formed n schemes few before i inside f declared s at r rows_are
 
-      by_result : (result : Result Yes CertStop) → result ≢ Err stop.NoMemory → IsYesMade bases f.units r s result → HasYes i ⊎ Passing
-      by_result (Ok c) some made =
+      by_result : (result : Result Yes CertStop) → result ≢ Err stop.NoMemory → IsYesMade bases f.units r s result → IfOk result (IsTidyYes bases f.units) → HasYes i ⊎ Passing
+      by_result (Ok c) some made tidy =
           let valid : IsYesOf p schemes i f s c = yes_valid p formed n schemes few before i inside f declared s at r rows_are (Ok c) made in
           inl (record {
             certificate = c;
             valid = λ g t e h. subst (λ x. IsYesOf p schemes i g x c) (same_item s t (sym at ∙ h)) (subst (λ x. IsYesOf p schemes i x s c) (same_item f g (sym declared ∙ e)) valid);
+            tidy = λ g e. subst (λ (x : FunctionTree). IsTidyYes bases x.units c) (same_item f g (sym declared ∙ e)) tidy;
           })
-      by_result (Err (stop.CertRange z)) some made =
+      by_result (Err (stop.CertRange z)) some made tidy =
           inr (record { function = i; number = z; passes = yes_range p formed n schemes few before i inside f declared s at r rows_are (Err (stop.CertRange z)) made })
-      by_result (Err stop.NoMemory) some made = absurd (some refl)
+      by_result (Err stop.NoMemory) some made tidy = absurd (some refl)
 
       yes_or_passing : HasYes i ⊎ Passing
-      yes_or_passing = let w = certified bases f.units r rows_asked f.at s so in by_result w.result w.some w.made
+      yes_or_passing = let w = certified bases f.units r rows_asked f.at s so in by_result w.result w.some w.made (w.tidy (declared_units schemes i f declared n (omega (arith, inside)) few before j.few j.in_range))
 
       few_parameters : length s.signature.params < 2 ^ 63
       few_parameters =
@@ -203,6 +215,7 @@ module _ (p : ProgramTree) (formed : IsFormed p) (shaped : IsShaped p) where
       list : List Yes
       long : length list ≡ m
       valid : AreYesOf p schemes list
+      tidy : AreTidyYes p list
 
     one_more : (m : ℕ) → HaveYes m → HasYes m → HaveYes (suc m)
     one_more m h y =
@@ -212,10 +225,11 @@ module _ (p : ProgramTree) (formed : IsFormed p) (shaped : IsShaped p) where
           list = h.list ++ y.certificate ∷ [];
           long = omega (arith, n, all);
           valid = yes_more p schemes h.list y.certificate h.valid (λ f s e g. subst (λ k. IsYesOf p schemes k f s y.certificate) (sym n) (y.valid f s (ap (slice_get p.functions) (sym n) ∙ e) (ap (slice_get schemes) (sym n) ∙ g)));
+          tidy = tidy_more p h.list y.certificate h.tidy (λ f e. y.tidy f (ap (slice_get p.functions) (sym n) ∙ e));
         }
 
     have_yes : (m : ℕ) → m ≤ n → HaveYes m ⊎ Passing
-    have_yes zero most = inl (record { list = []; long = refl; valid = λ i f s c e g at. absurd (cc at) })
+    have_yes zero most = inl (record { list = []; long = refl; valid = λ i f s c e g at. absurd (cc at); tidy = λ i f c e at. absurd (cc at) })
     have_yes (suc m) most =
         elim (have_yes m (omega (arith, most))) [
           | inr passing ↦ inr passing
@@ -227,7 +241,7 @@ module _ (p : ProgramTree) (formed : IsFormed p) (shaped : IsShaped p) where
         ]
 
     -- ---- all of them, with the refusal if there is one
-    module _ (no : Option No) (is : IsRefusal p schemes (infer p) no) (h : HaveYes n) where
+    module _ (no : Option No) (is : IsRefusal p schemes (infer p) no) (tidy_no : (c : No) → no ≡ Some c → IsTidyNo c) (h : HaveYes n) where
       kept : AreKept schemes
       kept = kept_schemes schemes few_each
 
@@ -253,6 +267,9 @@ module _ (p : ProgramTree) (formed : IsFormed p) (shaped : IsShaped p) where
         no = subst (λ (ss : List SchemeTree). IsRefusal p ss (infer p) no) (sym kept.are) is;
       }
 
+      tidied : AreTidyProofs p proofs
+      tidied = record { yes = h.tidy; no = tidy_no }
+
   -- ---- the program
 
   -- some answer other than want of memory
@@ -264,10 +281,10 @@ module _ (p : ProgramTree) (formed : IsFormed p) (shaped : IsShaped p) where
   of_passing : IsWithinLimits (infer p) → Passing → HasProofs
   of_passing free w = record { result = Err (prove.CertRange w.function w.number); some = λ e. cc e; is = (free, w.passes) }
 
-  with_yes : (n : ℕ) (schemes : List SchemeTree) (few : n ≤ length p.functions) (before : infer_first p n ≡ all_schemes schemes) (no : Option No) → IsRefusal p schemes (infer p) no → HasProofs
-  with_yes n schemes few before no is =
+  with_yes : (n : ℕ) (schemes : List SchemeTree) (few : n ≤ length p.functions) (before : infer_first p n ≡ all_schemes schemes) (no : Option No) → IsRefusal p schemes (infer p) no → ((c : No) → no ≡ Some c → IsTidyNo c) → HasProofs
+  with_yes n schemes few before no is tidy_no =
       elim (have_yes n schemes few before n (omega arith)) [
-        | inl h ↦ record { result = Ok (proofs n schemes few before no is h); some = λ e. cc e; is = proved n schemes few before no is h }
+        | inl h ↦ record { result = Ok (proofs n schemes few before no is tidy_no h); some = λ e. cc e; is = (proved n schemes few before no is tidy_no h, tidied n schemes few before no is tidy_no h) }
         | inr passing ↦ of_passing (within_limits p schemes (infer p) no is) passing
       ]
 
@@ -288,22 +305,22 @@ module _ (p : ProgramTree) (formed : IsFormed p) (shaped : IsShaped p) where
       rows_are : AreEquations p.records schemes i f r
       rows_are = are schemes i f declared i (omega arith) most before own.few own.in_range
 
-      by_result : (result : Result No CertStop) → result ≢ Err stop.NoMemory → IsNoMade bases f.units r (judged bases f.units 0 r) result → HasProofs
-      by_result (Ok c) some made = with_yes i schemes most before (Some c) (no_valid p i refused schemes before f declared r rows_are formed (Ok c) made)
-      by_result (Err (stop.CertRange z)) some made =
+      by_result : (result : Result No CertStop) → result ≢ Err stop.NoMemory → IsNoMade bases f.units r (judged bases f.units 0 r) result → IfOk result IsTidyNo → HasProofs
+      by_result (Ok c) some made tidy = with_yes i schemes most before (Some c) (no_valid p i refused schemes before f declared r rows_are formed (Ok c) made) (λ d e. (let same : c ≡ d = cc e in subst IsTidyNo same tidy))
+      by_result (Err (stop.CertRange z)) some made tidy =
           of_passing (refused_within p i refused) (record { function = i; number = z; passes = no_range p i refused schemes before f declared r rows_are formed (Err (stop.CertRange z)) made })
-      by_result (Err stop.NoMemory) some made = absurd (some refl)
+      by_result (Err stop.NoMemory) some made tidy = absurd (some refl)
 
       refuted : HasProofs
       refuted =
           let w = refuted_or_passes bases f.units r (asked schemes i f declared i (omega arith) most before own.few own.in_range) (no_refused p i refused schemes before f declared r rows_are) in
-          by_result w.result w.some w.made
+          by_result w.result w.some w.made w.tidy
 
     first_refused : HasProofs
     first_refused = let h = (refused_function p i refused).of in refuted h.function h.declared h.schemes h.before
 
   by_inference : (inference : Inference) → infer p ≡ inference → HasProofs
-  by_inference (all_schemes schemes) e = with_yes (length p.functions) schemes (omega arith) e None (subst (λ q. IsRefusal p schemes q None) (sym e) refl)
+  by_inference (all_schemes schemes) e = with_yes (length p.functions) schemes (omega arith) e None (subst (λ q. IsRefusal p schemes q None) (sym e) refl) (λ c h. absurd (cc h))
   by_inference (stops_at_slots i) e = record { result = Err (prove.Slots i); some = λ h. cc h; is = e }
   by_inference (stops_at_range i at) e = record { result = Err (prove.PowerRange i at); some = λ h. cc h; is = e }
   by_inference (stops_at_units i row at) e = first_refused i (row, at, inl e)

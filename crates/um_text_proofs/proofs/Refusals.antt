@@ -1,6 +1,6 @@
--- Rows that are judged to be refused have a valid certificate of it, unless a number passes.
+-- Rows that are judged to be refused have a valid and tidy certificate of it, unless a number passes.
 use Rattle.std.proofs.Common.{◌≡◌, ◌≢◌, ◌⊎◌, inl, inr, ℕ, zero, suc, ◌+◌, ◌<◌, ◌≤◌, true, false, List, [], ◌∷◌, length, map, ℤ, pos, ◌*ℤ◌, nat_abs, Result, Ok, Err, refl, sym, ap, ◌∙◌, subst, arith}
-use Rattle.std.specs.Prelude.{All}
+use Rattle.std.specs.Prelude.{All, IfOk}
 use Rattle.std.proofs.lemmas.Bool.{cases_lt}
 use Rattle.std.proofs.lemmas.List.{length-map}
 use Rattle.um_units.specs.declared.Atom.TheVariants.{Base, Var}
@@ -18,6 +18,7 @@ use Rattle.um_rows.specs.Answers.{rows_signature}
 use Rattle.um_rows.specs.FirstUnsolvable.{Solving, solved, unsolved, solve, rows_up_to}
 use Rattle.um_rows.specs.Judgement.{Judgement, has_no_typing, not_general}
 use Rattle.um_check.specs.declared.certificate.No.{No}
+use Rattle.um_check.specs.Tidy.{IsTidyNo}
 use Rattle.um_kept.specs.declared.kept.Head.{Head}
 use Rattle.um_kept.specs.declared.row.Refused.{Refused}
 use Rattle.um_kept.specs.declared.stop.CertStop.{CertStop}
@@ -26,11 +27,11 @@ use Rattle.um_kept.specs.Kept.{Kept, row_unit, row_total, first}
 use Rattle.um_kept.specs.Formed.{HasLeastBase, IsModulus, IsNumber, PassesInRow, PassesInRows}
 use Rattle.um_kept.specs.Answers.{IsRefusedAs, AreRefused}
 use Rattle.um_proof.specs.Answers.{AreFunctionRows, judged, IsRefused, IsNoMade}
-use Rattle.um_proof.proofs.Judged.{judged_refused, front_unsolved, rows_low}
+use Rattle.um_proof.proofs.Judged.{judged_refused, front_inside, front_unsolved, rows_low}
 use Rattle.um_proof.proofs.ValidNo.{refuted, general_no, loose_refuted, loose_valid, loose_answers}
 use Rattle.um_text_proofs.proofs.Narrow.{IsPast, narrow_or_past}
 use Rattle.um_text_proofs.proofs.Rows.{IsRefusedAfter, Passes, Ends, rows_end}
-use Rattle.um_text_proofs.proofs.Certificates.{parts_of, exponents_are, parts_named}
+use Rattle.um_text_proofs.proofs.Certificates.{parts_of, exponents_are, parts_named, parts_tidy}
 
 -- ---- the least base unit of a unit without variables
 
@@ -145,6 +146,7 @@ module _ (bases parameters : ℕ) (r : Rows) (asked : AreFunctionRows bases para
     pub result : Result No CertStop
     pub some : result ≢ Err stop.NoMemory
     pub made : IsNoMade bases parameters r judgement result
+    pub tidy : IfOk result IsTidyNo
 
   abbrev head_of : ℕ → Head
   head_of n = record { slots = r.slots; parameters = n; bases = bases }
@@ -153,7 +155,7 @@ module _ (bases parameters : ℕ) (r : Rows) (asked : AreFunctionRows bases para
   refused_rows n row h refused is = let l = long in let within = h.within in (h.kept, omega (arith, l, within), h.reached, is)
 
   of_passes : Passes rows (first bases parameters r.slots) → IsRefuted
-  of_passes w = record { result = Err (stop.CertRange w.number); some = λ e. cc e; made = inl w.passes }
+  of_passes w = record { result = Err (stop.CertRange w.number); some = λ e. cc e; made = inl w.passes; tidy = tt }
 
   module _ (row : ℕ) (refused : Refused) (made : AreRefused (head_of parameters) list row refused) where
     -- no units satisfy the rows, but some do with the unit parameters as slots like the others
@@ -165,6 +167,7 @@ module _ (bases parameters : ℕ) (r : Rows) (asked : AreFunctionRows bases para
           result = Ok c;
           some = λ e. cc e;
           made = general_no bases parameters r asked row refused made so units end c refl refl refl (exponents_are refused.total by.closed) (parts_named (suc row) refused.total by.closed by.below);
+          tidy = parts_tidy (suc row) refused.total (let number = asked.number in let within = made.1 in omega (arith, number, within)) by.closed by.below;
         }
 
     -- none do
@@ -185,6 +188,7 @@ module _ (bases parameters : ℕ) (r : Rows) (asked : AreFunctionRows bases para
             result = Ok c;
             some = λ e. cc e;
             made = loose_answers bases parameters r asked row refused made so j place end (Ok c) valid refl refl tt;
+            tidy = parts_tidy (suc j) other.total (let number = asked.number in let before = front_inside list (own_variables r.slots) row j place end in omega (arith, number, within, before)) by.closed by.below;
           }
 
       loosely_passes : Passes rows (first bases 0 r.slots) → IsRefuted
@@ -193,6 +197,7 @@ module _ (bases parameters : ℕ) (r : Rows) (asked : AreFunctionRows bases para
             result = Err (stop.CertRange w.number);
             some = λ e. cc e;
             made = loose_answers bases parameters r asked row refused made so j place end (Err (stop.CertRange w.number)) tt tt tt w.passes;
+            tidy = tt;
           }
 
       by_loose_rows : Ends rows (first bases 0 r.slots) (unsolved j place) ⊎ Passes rows (first bases 0 r.slots) → IsRefuted
