@@ -109,7 +109,7 @@ module _ (p : ProgramTree) (formed : IsFormed p) (shaped : IsShaped p) where
         omega (arith, most, long)
 
     few_params : length (slot_equations p.records schemes i f).params < 2 ^ 63
-    few_params = let most = (formed.functions i f declared).few_params in let long = noted_count _ _ 0 f.params in omega (arith, most, long)
+    few_params = let most = (formed.functions i f declared).few_params in let long : length (slot_equations p.records schemes i f).params ≡ length f.params = noted_count _ _ 0 f.params in omega (arith, most, long)
 
     abbrev equations : Rows
     equations = record {
@@ -227,7 +227,7 @@ module _ (p : ProgramTree) (formed : IsFormed p) (shaped : IsShaped p) where
         ]
 
     -- ---- all of them, with the refusal if there is one
-    module _ (no : Option No) (is : IsRefusal p schemes (infer p) no) (h : HaveYes n) where
+    module _ (refusal : Option No) (is : IsRefusal p schemes (infer p) refusal) (h : HaveYes n) where
       kept : AreKept schemes
       kept = kept_schemes schemes few_each
 
@@ -242,7 +242,7 @@ module _ (p : ProgramTree) (formed : IsFormed p) (shaped : IsShaped p) where
           record {
             schemes = record { items = kept_items kept.items (omega (arith, few, functions, all)) };
             yes = record { items = kept_items h.list (omega (arith, few, functions, long)) };
-            no = no;
+            no = refusal;
           }
 
       proved : AreProofs p proofs
@@ -250,7 +250,7 @@ module _ (p : ProgramTree) (formed : IsFormed p) (shaped : IsShaped p) where
         schemes = ap (infer_first p) same_count ∙ before ∙ ap all_schemes (sym kept.are);
         count = h.long ∙ sym same_count;
         yes = λ i f s c e g at. subst (λ (ss : List SchemeTree). IsYesOf p ss i f s c) (sym kept.are) (h.valid i f s c e (ap (λ (ss : List SchemeTree). slice_get ss i) (sym kept.are) ∙ g) at);
-        no = subst (λ (ss : List SchemeTree). IsRefusal p ss (infer p) no) (sym kept.are) is;
+        no = subst (λ (ss : List SchemeTree). IsRefusal p ss (infer p) refusal) (sym kept.are) is;
       }
 
   -- ---- the program
@@ -264,11 +264,11 @@ module _ (p : ProgramTree) (formed : IsFormed p) (shaped : IsShaped p) where
   of_passing : IsWithinLimits (infer p) → Passing → HasProofs
   of_passing free w = record { result = Err (prove.CertRange w.function w.number); some = λ e. cc e; is = (free, w.passes) }
 
-  with_yes : (n : ℕ) (schemes : List SchemeTree) (few : n ≤ length p.functions) (before : infer_first p n ≡ all_schemes schemes) (no : Option No) → IsRefusal p schemes (infer p) no → HasProofs
-  with_yes n schemes few before no is =
+  with_yes : (n : ℕ) (schemes : List SchemeTree) (few : n ≤ length p.functions) (before : infer_first p n ≡ all_schemes schemes) (refusal : Option No) → IsRefusal p schemes (infer p) refusal → HasProofs
+  with_yes n schemes few before refusal is =
       elim (have_yes n schemes few before n (omega arith)) [
-        | inl h ↦ record { result = Ok (proofs n schemes few before no is h); some = λ e. cc e; is = proved n schemes few before no is h }
-        | inr passing ↦ of_passing (within_limits p schemes (infer p) no is) passing
+        | inl h ↦ record { result = Ok (proofs n schemes few before refusal is h); some = λ e. cc e; is = proved n schemes few before refusal is h }
+        | inr passing ↦ of_passing (within_limits p schemes (infer p) refusal is) passing
       ]
 
   module _ (i : ℕ) (refused : IsFirstRefused (infer p) i) where
@@ -282,22 +282,22 @@ module _ (p : ProgramTree) (formed : IsFormed p) (shaped : IsShaped p) where
       own : HasJudgement bases p.records schemes i f (refused_function p i refused).judgement
       own = refused_judgement p i refused schemes before f declared
 
-      abbrev r : Rows
-      r = equations schemes i f declared i (omega arith) most before own.few own.in_range
+      abbrev own_rows : Rows
+      own_rows = equations schemes i f declared i (omega arith) most before own.few own.in_range
 
-      rows_are : AreEquations p.records schemes i f r
-      rows_are = are schemes i f declared i (omega arith) most before own.few own.in_range
+      own_rows_are : AreEquations p.records schemes i f own_rows
+      own_rows_are = are schemes i f declared i (omega arith) most before own.few own.in_range
 
-      by_result : (result : Result No CertStop) → result ≢ Err stop.NoMemory → IsNoMade bases f.units r (judged bases f.units 0 r) result → HasProofs
-      by_result (Ok c) some made = with_yes i schemes most before (Some c) (no_valid p i refused schemes before f declared r rows_are formed (Ok c) made)
-      by_result (Err (stop.CertRange z)) some made =
-          of_passing (refused_within p i refused) (record { function = i; number = z; passes = no_range p i refused schemes before f declared r rows_are formed (Err (stop.CertRange z)) made })
-      by_result (Err stop.NoMemory) some made = absurd (some refl)
+      by_refusal : (result : Result No CertStop) → result ≢ Err stop.NoMemory → IsNoMade bases f.units own_rows (judged bases f.units 0 own_rows) result → HasProofs
+      by_refusal (Ok c) some made = with_yes i schemes most before (Some c) (no_valid p i refused schemes before f declared own_rows own_rows_are formed (Ok c) made)
+      by_refusal (Err (stop.CertRange z)) some made =
+          of_passing (refused_within p i refused) (record { function = i; number = z; passes = no_range p i refused schemes before f declared own_rows own_rows_are formed (Err (stop.CertRange z)) made })
+      by_refusal (Err stop.NoMemory) some made = absurd (some refl)
 
       refuted : HasProofs
       refuted =
-          let w = refuted_or_passes bases f.units r (asked schemes i f declared i (omega arith) most before own.few own.in_range) (no_refused p i refused schemes before f declared r rows_are) in
-          by_result w.result w.some w.made
+          let w = refuted_or_passes bases f.units own_rows (asked schemes i f declared i (omega arith) most before own.few own.in_range) (no_refused p i refused schemes before f declared own_rows own_rows_are) in
+          by_refusal w.result w.some w.made
 
     first_refused : HasProofs
     first_refused = let h = (refused_function p i refused).of in refuted h.function h.declared h.schemes h.before
