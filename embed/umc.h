@@ -71,7 +71,7 @@ int umc_types(const umc_program *program, char **answer, size_t *answer_size);
  * budget: how many calls the run may make, at most 10,000,000
  * name, arguments, arguments_count: the function's name, and its arguments as they are written in the language
  *
- * A call takes time for its words, for the names in the program and for its run; the text isn't looked at again.
+ * A call takes time for its words and for its run; the text isn't looked at again.
  */
 int umc_call(const umc_program *program, unsigned long budget, const char *name, const char *const *arguments,
              size_t arguments_count, char **answer, size_t *answer_size);

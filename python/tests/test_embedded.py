@@ -258,6 +258,15 @@ def test_one_call_is_as_a_row_of_each(vehicle, given):
         assert vehicle.metres(given, unit=unit) == vehicle.metres.each([given], unit=unit)[0]
 
 
+@pytest.mark.parametrize("unit", ["%", "%d", "0", "ft\0"])
+def test_a_unit_of_any_characters(vehicle, unit):
+    with pytest.raises(umc.Error) as caught:
+        vehicle.metres(1, unit=unit)
+    with pytest.raises(type(caught.value)) as text:
+        vehicle.metres(f"1<{unit}>")
+    assert str(caught.value) == str(text.value)
+
+
 def test_a_long_value_comes_whole(engine):
     """Longer than the room that the library is first handed."""
     long = ENDLESS.replace("  x39", "  x12")

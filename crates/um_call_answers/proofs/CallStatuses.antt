@@ -24,7 +24,7 @@ outcome_reply p t budget_outcome steps text status reply = rw reply.1 refl
 
 run_status : (way : Way) (budget : ℕ) (p : ProgramTree) (call : CallTree) (text : List ℕ) (status : Status) → RunAnswer way budget p call text status → IsTrue (is_answered status)
 unfolding RunAnswer
-run_status way budget p call text status (o, meant, steps, counted, reply) = outcome_reply p call.type o steps text status reply
+run_status way budget p call text status (o, steps, ended, reply) = outcome_reply p call.type o steps text status reply
 
 pub call_status : (way : Way) (asked : AskedCall) (c : CheckedTree) (text : List ℕ) (status : Status) → IsCallAnswer way asked c text status → IsTrue (is_answered status)
 unfolding IsCallAnswer

@@ -1,5 +1,5 @@
 -- A call whose arguments fit a typing, and whose meaning gives a value that can be printed, is done.
-use Rattle.std.proofs.Common.{◌≡◌, ℕ, List, Some, inl, inr, sym, subst, ◌∙◌}
+use Rattle.std.proofs.Common.{◌≡◌, ℕ, List, Some, inl, inr, subst}
 use Rattle.um_tree.specs.ValueTree.{value_outcome}
 use Rattle.um_tree.specs.Meaning.{outcome_of_call}
 use Rattle.um_run.specs.Calls.{CallTree, call_values}
@@ -15,13 +15,13 @@ use Rattle.um_call_answers.specs.CallAnswer.{CallAnswer, IsCallAnswer, RunAnswer
 use Rattle.um_call_answers.specs.OfCall.{IsAskedCall}
 use Rattle.um_call_answers.specs.Passing.{GivesValue}
 use Rattle.um_call_answers.proofs.CallStage.{call_given}
+use Rattle.um_call_answers.proofs.CallEnds.{ends_with_meant}
 
 module _ (way : Way) (asked : AskedCall) (c : CheckedTree) (g : GivesValue asked c) (text : List ℕ) (status : Status) where
   run_done : (call : CallTree) → IsAskedCall asked c call → outcome_of_call c.text.program call.function (call_values call) asked.budget ≡ Some (value_outcome g.value) → RunAnswer way asked.budget c.text.program call text status → status ≡ Done
   unfolding RunAnswer
-  run_done call named meant (o, ended, steps, counted, reply) =
-      let both : Some o ≡ Some (value_outcome g.value) = sym ended ∙ meant in
-      let same : o ≡ value_outcome g.value = cc both in
+  run_done call named meant (o, steps, ended, reply) =
+      let same = ends_with_meant asked.budget c.text.program call way o (value_outcome g.value) steps meant ended in
       printed (subst (λ e. IsOutcomeReply c.text.program call.type e steps text status) same reply)
     where
       printed : IsValueReply c.text.program call.type g.value steps text status → status ≡ Done

@@ -6,6 +6,7 @@ mod AskedCalls
 mod ImageValues
 mod ExecStatuses
 pub mod CallStage
+pub mod CallEnds
 pub mod CallStatuses
 pub mod UniqueReplies
 pub mod CallsDone
@@ -15,3 +16,4 @@ pub mod ExecAnswers
 pub mod TwinArguments
 pub mod TwinAnswers
 pub mod TwinDone
+pub mod EndsAsMeant

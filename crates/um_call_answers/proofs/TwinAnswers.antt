@@ -7,11 +7,13 @@ use Rattle.um_tree.specs.ValueTree.{ValueTree, OutcomeTree, value_outcome, trap_
 use Rattle.um_tree.specs.ProgramTree.{ProgramTree}
 use Rattle.um_tree.specs.Formed.{IsFormed}
 use Rattle.um_show.specs.ValueText.{value_text}
-use Rattle.um_scale.specs.RescaledLiterals.{misfit_in}
+use Rattle.um_gen.specs.ProgramCode.{program_code}
+use Rattle.um_vm.proofs.Calls.{one_outcome}
+use Rattle.um_scale.specs.RescaledLiterals.{misfit_in, rescaled_program}
 use Rattle.um_sizes.specs.declared.read.ScalesRefusal.{ScalesRefusal}
 use Rattle.um_sizes.specs.declared.read.ScalesRefusal.TheVariants as scales_refusal
 use Rattle.um_sizes.proofs.UniqueSizes.{scales_are_unique}
-use Rattle.um_run.specs.Calls.{CallTree}
+use Rattle.um_run.specs.Calls.{CallTree, call_values}
 use Rattle.um_reports.specs.declared.status.Status.{Status}
 use Rattle.um_reports.specs.ScaleRefusals.{IsLiteralReply, IsMisfitReply}
 use Rattle.um_reports.proofs.ReportStatuses.{is_answered, sizes_reply, one_sizes_reply}
@@ -19,7 +21,7 @@ use Rattle.um_front.specs.Stages.{CheckedTree, IsCheckedText}
 use Rattle.um_front.proofs.CheckedTexts.{shaped_is_formed}
 use Rattle.um_front.proofs.StageLaws.{checked_answered, checked_once}
 use Rattle.um_call_answers.specs.AskedCall.{AskedCall}
-use Rattle.um_call_answers.specs.TwinAnswer.{IsSecondReply, AreValueReplies, IsStopReply, BySecond, AreOutcomeReplies, TwinRunAnswer, misfit_among, InputsAnswer, TwinLiteralsAnswer, SizedAnswer, ByTwinSizes, IsTwinAnswer, TwinAnswer}
+use Rattle.um_call_answers.specs.TwinAnswer.{IsSecondReply, AreValueReplies, IsStopReply, BySecond, AreOutcomeReplies, TwinRunAnswer, misfit_among, rescaled_values, InputsAnswer, TwinLiteralsAnswer, SizedAnswer, ByTwinSizes, IsTwinAnswer, TwinAnswer}
 use Rattle.um_call_answers.proofs.CallStage.{call_answered, call_said_once}
 
 -- ---- statuses
@@ -49,7 +51,7 @@ module _ (text : List ℕ) (status : Status) where
 
   runs_status : (budget : ℕ) (cs : List Frac) (p : ProgramTree) (call : CallTree) → TwinRunAnswer budget cs p call text status → IsAnswered
   unfolding TwinRunAnswer
-  runs_status budget cs p call (o, meant, e, also, replies) = outcomes_status p call.type o e replies
+  runs_status budget cs p call (o, ended, e, also, replies) = outcomes_status p call.type o e replies
 
   inputs_status : (budget : ℕ) (cs : List Frac) (p : ProgramTree) (call : CallTree) → InputsAnswer budget cs p call text status → IsAnswered
   unfolding InputsAnswer
@@ -116,9 +118,9 @@ module _ (text other : List ℕ) (status another : Status) where
 
   runs_one : (budget : ℕ) (cs : List Frac) (p : ProgramTree) (call : CallTree) → TwinRunAnswer budget cs p call text status → TwinRunAnswer budget cs p call other another → AreSame
   unfolding TwinRunAnswer
-  runs_one budget cs p call (o, meant, e, also, a) (x, again, y, too, b) =
-      let first : Some o ≡ Some x = sym meant ∙ again in let same : o ≡ x = cc first in
-      let second : Some e ≡ Some y = sym also ∙ too in let alike : e ≡ y = cc second in
+  runs_one budget cs p call (o, ended, e, also, a) (x, again, y, too, b) =
+      let same = one_outcome (program_code p.functions) call.function (call_values call) budget o x ended again in
+      let alike = one_outcome (program_code (rescaled_program cs p).functions) call.function (rescaled_values cs call) budget e y also too in
       outcomes_one p call.type x y
       (subst (λ z. AreOutcomeReplies p call.type x z text status) alike (subst (λ z. AreOutcomeReplies p call.type z e text status) same a)) b
 

@@ -15,11 +15,13 @@ use Rattle.um_tree.specs.InputType.{ValuesHave}
 use Rattle.um_tree.specs.Shapes.{note_shape}
 use Rattle.um_cells.specs.Arguments.{AreArgumentsOf}
 use Rattle.um_run.specs.Calls.{CallTree, call_values}
-use Rattle.um_scale.specs.RescaledInputs.{input_misfit}
+use Rattle.um_scale.specs.Sizes.{sizes}
+use Rattle.um_scale.specs.RescaledInputs.{input_misfit, rescaled_input}
+use Rattle.um_scale.proofs.RescaledCalls.{all_rescaled, rescaled_arguments}
 use Rattle.um_call_answers.specs.declared.arguments.ArgumentStop.{ArgumentStop}
 use Rattle.um_call_answers.specs.declared.arguments.ArgumentStop.TheVariants.{Misfit, NoMemory}
-use Rattle.um_call_answers.specs.TwinAnswer.{misfit_among}
-use Rattle.um_call_answers.specs.Rescaling.{IsArgumentRescaled, AreArgumentsRescaled}
+use Rattle.um_call_answers.specs.TwinAnswer.{misfit_among, rescaled_values}
+use Rattle.um_call_answers.specs.Rescaling.{IsArgumentRescaled, AreArgumentsRescaled, IsOther}
 
 neither : (o m : Option ℕ) → cond (is_some o) (Some 0) (option_map (λ k. suc k) m) ≡ None → (o ≡ None) × (m ≡ None)
 neither None None e = (refl, refl)
@@ -65,6 +67,12 @@ pub one_misfit : (cs : List Frac) (is : List InputTree) (k : ℕ) (i : InputTree
     → IsArgumentRescaled cs k i old new (Err stop) → AreArgumentsRescaled cs is (Err stop)
 one_misfit cs is k i old new (Misfit index) there fit h = misfit_here cs is k i there fit h.1 ∙ ap Some (sym h.0)
 one_misfit cs is k i old new NoMemory there fit h = tt
+
+-- the values of arguments that all fit are arguments of the program in these sizes, too
+pub other_arguments : (cs : List Frac) (p q : ProgramTree) (call : CallTree) → IsOther cs p q → misfit_among cs call.inputs ≡ None → AreArgumentsOf p call.function (call_values call) → AreArgumentsOf q call.function (rescaled_values cs call)
+other_arguments cs p q call other fit allowed =
+    rescaled_arguments p q (sizes cs) call.function call.inputs (map (rescaled_input cs) call.inputs) other.scaled
+    (all_rescaled cs other.positive call.inputs (all_fit cs call.inputs fit)) allowed
 
 -- ---- a call has few arguments
 as_many : (records : List RecordTree) (vs : List ValueTree) (shapes : List ShapeTree) → ValuesHave records (values_in_order vs) shapes → length vs ≡ length shapes

@@ -1,11 +1,14 @@
 -- A call that is made twice is done if the sizes and the arguments fit, and both meanings give values that can be
 -- printed.
-use Rattle.std.proofs.Common.{◌≡◌, ◌⊎◌, ℕ, List, MatchOption, Option, Result, Ok, Err, Some, None, inl, inr, sym, subst, ◌∙◌}
+use Rattle.std.proofs.Common.{◌≡◌, ◌⊎◌, ℕ, List, MatchOption, Option, Result, Ok, Err, Some, None, inl, inr, sym, subst}
 use Rattle.um_frac.specs.declared.number.Frac.{Frac}
 use Rattle.um_tree.specs.ValueTree.{value_outcome}
 use Rattle.um_tree.specs.ProgramTree.{ProgramTree}
 use Rattle.um_tree.specs.Meaning.{outcome_of_call}
 use Rattle.um_show.specs.ValueText.{value_text}
+use Rattle.um_gen.specs.ProgramCode.{program_code}
+use Rattle.um_gen.proofs.EndsAsMeant.{outcomes_are_reached}
+use Rattle.um_vm.proofs.Calls.{one_outcome}
 use Rattle.um_scale.specs.RescaledLiterals.{rescaled_program}
 use Rattle.um_sizes.specs.declared.read.ScalesRefusal.{ScalesRefusal}
 use Rattle.um_sizes.specs.declared.read.ScalesRefusal.TheVariants as scales_refusal
@@ -47,8 +50,11 @@ module _ (word : List ℕ) (asked : AskedCall) (c : CheckedTree) (g : GivesTwins
       runs_done : TwinRunAnswer asked.budget cs p call text status → status ≡ Done
       unfolding TwinRunAnswer
       runs_done (o, ended, e, also, replies) =
-          let first : Some o ≡ Some (value_outcome g.first) = sym ended ∙ meant in let same : o ≡ value_outcome g.first = cc first in
-          let second : Some e ≡ Some (value_outcome g.second) = sym also ∙ also_meant in let alike : e ≡ value_outcome g.second = cc second in
+          let q = rescaled_program cs p in
+          let first = outcomes_are_reached p call.function (call_values call) asked.budget (value_outcome g.first) meant in
+          let second = outcomes_are_reached q call.function (rescaled_values cs call) asked.budget (value_outcome g.second) also_meant in
+          let same = one_outcome (program_code p.functions) call.function (call_values call) asked.budget o (value_outcome g.first) ended first in
+          let alike = one_outcome (program_code q.functions) call.function (rescaled_values cs call) asked.budget e (value_outcome g.second) also second in
           values_done (subst (λ x. AreOutcomeReplies p call.type (value_outcome g.first) x text status) alike (subst (λ x. AreOutcomeReplies p call.type x e text status) same replies))
 
       inputs_done : InputsAnswer asked.budget cs p call text status → status ≡ Done

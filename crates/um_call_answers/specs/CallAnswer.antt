@@ -1,11 +1,13 @@
 -- The answer to a call of a function: the call that the words name, how it ends, and how that is printed.
--- Source: this project's own; the outcome is that of the meaning (`um_tree`), by whatever runner.
+-- Source: this project's own. By the tree a call ends as its meaning has it (`um_tree`), by the code as the run of the
+-- program's code does (`um_gen`, `um_machine`).
 use Rattle.std.specs.Prelude.{ℕ, ◌≡◌, IsTrue, List, [], ◌++◌, codes, decimal, Option, Some, None}
 use Rattle.um_tree.specs.TypeTree.{TypeTree}
 use Rattle.um_tree.specs.ValueTree.{ValueTree, OutcomeTree, value_outcome, trap_outcome, budget_outcome}
 use Rattle.um_tree.specs.ProgramTree.{ProgramTree}
 use Rattle.um_tree.specs.Meaning.{outcome_of_call}
 use Rattle.um_show.specs.ValueText.{value_text, parts_fit}
+use Rattle.um_machine.specs.Machine.{EndsWith}
 use Rattle.um_gen.specs.ProgramCode.{program_code}
 use Rattle.um_vm.specs.Counting.{CountsSteps}
 use Rattle.um_run.specs.Calls.{CallTree, call_values}
@@ -37,18 +39,21 @@ IsOutcomeReply p t (value_outcome v) steps text status = IsValueReply p t v step
 IsOutcomeReply p t (trap_outcome why) steps text status = IsTrapReply why text status
 IsOutcomeReply p t budget_outcome steps text status = IsReply text status (line (codes "error 13: budget")) BudgetEnd
 
--- if steps are counted, their number up to the end of the run of the program's code
-abbrev pub AreSteps : Way → ℕ → ProgramTree → CallTree → OutcomeTree → Option ℕ → Type 0
-AreSteps way.Tree budget p call o steps = steps ≡ None
-AreSteps way.Code budget p call o steps = steps ≡ None
-AreSteps way.Counted budget p call o steps =
+-- Run this way at the budget, the call ends with this outcome: by the tree with that of its meaning, by the code with
+-- that of the run of the program's code. If steps are counted, it ends after so many.
+abbrev pub EndsBy : Way → ℕ → ProgramTree → CallTree → OutcomeTree → Option ℕ → Type 0
+EndsBy way.Tree budget p call o steps =
+    (outcome_of_call p call.function (call_values call) budget ≡ Some o) × (steps ≡ None)
+EndsBy way.Code budget p call o steps =
+    EndsWith (program_code p.functions) call.function (call_values call) budget o × (steps ≡ None)
+EndsBy way.Counted budget p call o steps =
     (k : ℕ) × CountsSteps (program_code p.functions) call.function (call_values call) budget o k × (steps ≡ Some k)
 
--- the call ends as its meaning has it at the budget, whichever way it is run
+-- how it ends is told
 unfoldable pub RunAnswer : Way → ℕ → ProgramTree → CallTree → List ℕ → Status → Type 0
 RunAnswer way budget p call text status =
-    (o : OutcomeTree) × (outcome_of_call p call.function (call_values call) budget ≡ Some o)
-    × (steps : Option ℕ) × AreSteps way budget p call o steps × IsOutcomeReply p call.type o steps text status
+    (o : OutcomeTree) × (steps : Option ℕ) × EndsBy way budget p call o steps
+    × IsOutcomeReply p call.type o steps text status
 
 -- the call of the function of this name on the arguments that the texts are
 unfoldable pub IsCallAnswer : Way → AskedCall → CheckedTree → List ℕ → Status → Type 0

@@ -9,6 +9,7 @@ pub mod TwinAnswer
 pub mod ExecAnswer
 pub mod Passing
 -- What the definitions come to: statements, each proved as the contract of a function of src/laws.rt.
+pub mod EndLaws
 pub mod Laws
 -- What mirrors the code: what is known of calls, and of programs and arguments in other sizes.
 pub mod Calling

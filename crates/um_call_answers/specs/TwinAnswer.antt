@@ -1,6 +1,7 @@
 -- The answer to `twin BUDGET SCALES NAME ARG*`: the call, and the same call in other sizes of the base units.
--- Source: the rescaled program and inputs are Kennedy's (1997); the words and the lines are this project's own.
-use Rattle.std.specs.Prelude.{ℕ, suc, ◌≡◌, ◌++◌, IsTrue, List, [], ◌∷◌, codes, cond, is_some, map}
+-- Source: the rescaled program and inputs are Kennedy's (1997); the words and the lines are this project's own. Both
+-- calls end as the runs of their programs' codes do (`um_gen`, `um_machine`).
+use Rattle.std.specs.Prelude.{ℕ, suc, ◌++◌, IsTrue, List, [], ◌∷◌, codes, cond, is_some, map}
 use Rattle.std.specs.Prelude.{MatchOption, Option, Some, None, Result, Ok, Err}
 use Rattle.std.specs.Option.{option_map}
 use Rattle.um_frac.specs.declared.number.Frac.{Frac}
@@ -8,8 +9,9 @@ use Rattle.um_tree.specs.TypeTree.{TypeTree}
 use Rattle.um_tree.specs.ValueTree.{ValueTree, InputTree, without_units}
 use Rattle.um_tree.specs.ValueTree.{OutcomeTree, value_outcome, trap_outcome, budget_outcome}
 use Rattle.um_tree.specs.ProgramTree.{ProgramTree}
-use Rattle.um_tree.specs.Meaning.{outcome_of_call}
 use Rattle.um_show.specs.ValueText.{value_text, parts_fit}
+use Rattle.um_machine.specs.Machine.{EndsWith}
+use Rattle.um_gen.specs.ProgramCode.{program_code}
 use Rattle.um_run.specs.Calls.{CallTree, call_values}
 use Rattle.um_scale.specs.RescaledInputs.{input_misfit, rescaled_input}
 use Rattle.um_scale.specs.RescaledLiterals.{misfit_in, rescaled_program}
@@ -62,12 +64,12 @@ rescaled_arguments cs call = map (rescaled_input cs) call.inputs
 abbrev pub rescaled_values : List Frac → CallTree → List ValueTree
 rescaled_values cs call = map without_units (rescaled_arguments cs call)
 
--- both calls end as their meanings have it at the budget, each in a program of its own
+-- how both calls end at the budget, each by the code of a program of its own, is told
 unfoldable pub TwinRunAnswer : ℕ → List Frac → ProgramTree → CallTree → List ℕ → Status → Type 0
 TwinRunAnswer budget cs p call text status =
-    (o : OutcomeTree) × (outcome_of_call p call.function (call_values call) budget ≡ Some o)
+    (o : OutcomeTree) × EndsWith (program_code p.functions) call.function (call_values call) budget o
     × (other : OutcomeTree)
-    × (outcome_of_call (rescaled_program cs p) call.function (rescaled_values cs call) budget ≡ Some other)
+    × EndsWith (program_code (rescaled_program cs p).functions) call.function (rescaled_values cs call) budget other
     × AreOutcomeReplies p call.type o other text status
 
 -- ---- what doesn't fit

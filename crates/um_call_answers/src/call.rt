@@ -1,12 +1,11 @@
 // The answer to a call of a function.
-ghost use Rattle.std.specs.Prelude.{◌≡◌, IfOk, Some, None};
+ghost use Rattle.std.specs.Prelude.{IfOk};
 ghost use Rattle.um_tree.specs.ValueTree.{outcome_tree};
 ghost use Rattle.um_tree.specs.ProgramTree.{program_tree};
-ghost use Rattle.um_tree.specs.Meaning.{outcome_of_call};
-ghost use Rattle.um_run.specs.Calls.{call_tree, call_values};
+ghost use Rattle.um_run.specs.Calls.{call_tree};
 ghost use Rattle.um_front.specs.Parts.{checked_tree};
 ghost use Rattle.um_call_answers.specs.AskedCall.{IsShortCall};
-ghost use Rattle.um_call_answers.specs.CallAnswer.{CallAnswer, IsCallAnswer, RunAnswer, AreSteps};
+ghost use Rattle.um_call_answers.specs.CallAnswer.{CallAnswer, IsCallAnswer, RunAnswer, EndsBy};
 ghost use Rattle.um_call_answers.specs.Calling.{asked_call, CanRun};
 
 use crate::asked::read_asked;
@@ -80,15 +79,13 @@ fn end_of(
     call: &Call,
 ) -> Result<Ended, AllocError>
     requires can { CanRun budget (program_tree shaped.now) (call_tree call.now) }
-    ensures outcome { IfOk result (λ ended. outcome_of_call (program_tree shaped.now) call.now.function
-        (call_values (call_tree call.now)) budget ≡ Some (outcome_tree ended.outcome)) }
-    ensures steps { IfOk result (λ ended. AreSteps way budget (program_tree shaped.now) (call_tree call.now)
+    ensures { IfOk result (λ ended. EndsBy way budget (program_tree shaped.now) (call_tree call.now)
         (outcome_tree ended.outcome) ended.steps) }
 {
     match way {
         Way::Tree => run_by_tree(alloc, budget, shaped, call),
-        Way::Code => Ok(run_by_code(alloc, budget, shaped, call)?.without_steps()),
-        Way::Counted => run_by_code(alloc, budget, shaped, call),
+        Way::Code => run_by_code(alloc, budget, shaped, call),
+        Way::Counted => count_by_code(alloc, budget, shaped, call),
     }
 }
 
@@ -100,19 +97,19 @@ fn run_by_tree(
     call: &Call,
 ) -> Result<Ended, AllocError>
     requires can { CanRun budget (program_tree shaped.now) (call_tree call.now) }
-    ensures outcome { IfOk result (λ ended. outcome_of_call (program_tree shaped.now) call.now.function
-        (call_values (call_tree call.now)) budget ≡ Some (outcome_tree ended.outcome)) }
-    ensures steps { IfOk result (λ ended. ended.steps ≡ None) }
+    ensures { IfOk result (λ ended. EndsBy Way.Tree budget (program_tree shaped.now) (call_tree call.now)
+        (outcome_tree ended.outcome) ended.steps) }
 {
     let values = argument_values(alloc, &call.inputs)?;
-    let outcome = TreeRunner::new(shaped).call(alloc, call.function, values, budget)?;
+    let runner = TreeRunner::new(shaped);
+    let outcome = runner.call(alloc, call.function, values, budget)?;
     Ok(Ended {
         outcome,
         steps: None,
     })
 }
 
-/// The outcome by the program's code, and the number of its steps.
+/// The outcome by the program's code.
 fn run_by_code(
     alloc: Global,
     budget: u64,
@@ -120,9 +117,22 @@ fn run_by_code(
     call: &Call,
 ) -> Result<Ended, AllocError>
     requires can { CanRun budget (program_tree shaped.now) (call_tree call.now) }
-    ensures outcome { IfOk result (λ ended. outcome_of_call (program_tree shaped.now) call.now.function
-        (call_values (call_tree call.now)) budget ≡ Some (outcome_tree ended.outcome)) }
-    ensures steps { IfOk result (λ ended. AreSteps Way.Counted budget (program_tree shaped.now) (call_tree call.now)
+    ensures { IfOk result (λ ended. EndsBy Way.Code budget (program_tree shaped.now) (call_tree call.now)
+        (outcome_tree ended.outcome) ended.steps) }
+{
+    let counted = count_by_code(alloc, budget, shaped, call)?;
+    Ok(counted.without_steps())
+}
+
+/// The outcome by the program's code, and the number of its steps.
+fn count_by_code(
+    alloc: Global,
+    budget: u64,
+    shaped: &Shaped,
+    call: &Call,
+) -> Result<Ended, AllocError>
+    requires can { CanRun budget (program_tree shaped.now) (call_tree call.now) }
+    ensures { IfOk result (λ ended. EndsBy Way.Counted budget (program_tree shaped.now) (call_tree call.now)
         (outcome_tree ended.outcome) ended.steps) }
 {
     let code = generate(alloc, shaped)?;

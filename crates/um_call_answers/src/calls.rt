@@ -22,7 +22,7 @@ use um_front::{Answer, Checked, Text, check};
 use um_gen::generate;
 use um_lines::{cut_source, next_line, words_of};
 use um_reports::{Reply, Status, reply_line, reply_to_call};
-use um_run::{Call, Callable, callable_of, read_call_of};
+use um_run::{Call, Callable, callable_of, read_call_of, tables_of};
 
 /// The longest text of a program, in bytes.
 const TEXT_LIMIT: usize = 1_048_576;
@@ -94,9 +94,10 @@ fn named_answers(
     let shaped = checked.shaped();
     let schemes = checked.schemes();
     let abbreviations = checked.abbreviations();
-    let callable = callable_of(alloc, shaped, schemes, abbreviations)?;
+    let tables = tables_of(alloc, shaped, abbreviations)?;
+    let callable = callable_of(shaped, schemes, abbreviations, &tables);
     let text = line_answers(alloc, budget, calls, program, &callable);
-    drop(callable);
+    drop(tables);
     text
 }
 

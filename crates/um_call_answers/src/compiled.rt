@@ -5,7 +5,6 @@ use um_front::Checked;
 use um_machine::Code;
 use um_run::{Call, argument_values};
 use um_tree::Outcome;
-use um_value::Runner;
 use um_vm::CodeRunner;
 
 /// A checked program with its code, of which calls are run. Contracts see the program.
@@ -32,10 +31,11 @@ impl<'a> Model for Compiled<'a> {
 }
 
 impl<'a> Compiled<'a> {
-    ghost use Rattle.std.specs.Prelude.{◌≡◌, ◌≤◌, IfOk, Some};
+    ghost use Rattle.std.specs.Prelude.{◌≡◌, IfOk, Some};
     ghost use Rattle.um_tree.specs.ProgramTree.{program_tree};
     ghost use Rattle.um_tree.specs.ValueTree.{outcome_tree};
     ghost use Rattle.um_tree.specs.Meaning.{outcome_of_call};
+    ghost use Rattle.um_machine.specs.Machine.{EndsWith};
     ghost use Rattle.um_gen.specs.ProgramCode.{program_code};
     ghost use Rattle.um_run.specs.Calls.{call_tree, call_values};
     ghost use Rattle.um_run.specs.Laws.{IsTypedCall};
@@ -55,16 +55,19 @@ impl<'a> Compiled<'a> {
         self.checked
     }
 
-    /// The outcome of a call that has a type, by the code, with at most so many calls, 10,000,000 at most. Want of
-    /// memory is the one error.
+    /// The outcome of a call that has a type, by the code, with at most so many calls. Want of memory is the one error.
     pub fn outcome(&self, alloc: Global, budget: u64, call: &Call) -> Result<Outcome, AllocError>
         requires typed { IsTypedCall (program_tree self.now.text.shaped) (call_tree call.now) }
-        requires small { budget ≤ 10000000 }
-        ensures { IfOk result (λ outcome. outcome_of_call (program_tree self.now.text.shaped) call.now.function
+        ensures end { IfOk result (λ outcome. EndsWith (program_code (program_tree self.now.text.shaped).functions)
+            call.now.function (call_values (call_tree call.now)) budget (outcome_tree outcome)) }
+        ensures meant { IfOk result (λ outcome. outcome_of_call (program_tree self.now.text.shaped) call.now.function
             (call_values (call_tree call.now)) budget ≡ Some (outcome_tree outcome)) }
     {
         let values = argument_values(alloc, &call.inputs)?;
         let runner = CodeRunner::new(self.checked.shaped(), self.code);
-        runner.call(alloc, call.function, values, budget)
+        match runner.count_steps(alloc, call.function, values, budget) {
+            Ok(counted) => Ok(counted.outcome),
+            Err(e) => Err(e),
+        }
     }
 }

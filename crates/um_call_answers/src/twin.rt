@@ -1,8 +1,9 @@
 // The answer about a call that is made twice, in two sizes of the base units.
-ghost use Rattle.std.specs.Prelude.{◌≡◌, IfOk, IsTrue, Some, map};
+ghost use Rattle.std.specs.Prelude.{IfOk, IsTrue, map};
 ghost use Rattle.um_tree.specs.ProgramTree.{program_tree};
 ghost use Rattle.um_tree.specs.ValueTree.{input_tree, outcome_tree};
-ghost use Rattle.um_tree.specs.Meaning.{outcome_of_call};
+ghost use Rattle.um_machine.specs.Machine.{EndsWith};
+ghost use Rattle.um_gen.specs.ProgramCode.{program_code};
 ghost use Rattle.um_run.specs.Calls.{call_tree, call_values};
 ghost use Rattle.um_tree.specs.Formed.{IsFormed};
 ghost use Rattle.um_scale.specs.Sizes.{AreSizes};
@@ -204,12 +205,13 @@ fn run_both(
     requires other { IsOther both.now.scales.now (program_tree both.now.shaped.now) (program_tree other.now) }
     requires fit { AreFitInputs both.now.scales.now (call_tree both.now.call.now)
         (map input_tree inputs.now.items.items) }
-    ensures first { IfOk result (λ t. outcome_of_call (program_tree both.now.shaped.now) both.now.call.now.function
-        (call_values (call_tree both.now.call.now)) both.now.budget ≡ Some (outcome_tree t.first)) }
-    ensures second { IfOk result (λ t. outcome_of_call
-        (rescaled_program both.now.scales.now (program_tree both.now.shaped.now)) both.now.call.now.function
-        (rescaled_values both.now.scales.now (call_tree both.now.call.now)) both.now.budget
-        ≡ Some (outcome_tree t.second)) }
+    ensures first { IfOk result (λ t. EndsWith (program_code (program_tree both.now.shaped.now).functions)
+        both.now.call.now.function (call_values (call_tree both.now.call.now)) both.now.budget
+        (outcome_tree t.first)) }
+    ensures second { IfOk result (λ t. EndsWith
+        (program_code (rescaled_program both.now.scales.now (program_tree both.now.shaped.now)).functions)
+        both.now.call.now.function (rescaled_values both.now.scales.now (call_tree both.now.call.now))
+        both.now.budget (outcome_tree t.second)) }
 {
     let code = generate(alloc, both.shaped)?;
     let rescaled = generate(alloc, other)?;

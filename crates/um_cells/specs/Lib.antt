@@ -1,6 +1,7 @@
--- What is trusted: on which values a function may be called, which value a word denotes, and what the operations on
--- words give.
+-- What is trusted: on which values a function may be called, what a runner answers, which value a word denotes, and
+-- what the operations on words give.
 pub mod Arguments
+pub mod Running
 pub mod Denotes
 pub mod Stores
 pub mod Operations

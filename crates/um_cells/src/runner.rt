@@ -1,20 +1,19 @@
 //! What runs the functions of a program.
-ghost use Rattle.std.specs.Prelude.{◌≡◌, ◌≤◌, IfOk, Some, map};
+ghost use Rattle.std.specs.Prelude.{◌≤◌, IfOk, map};
 ghost use Rattle.um_tree.specs.ProgramTree.{ProgramTree};
 ghost use Rattle.um_tree.specs.ValueTree.{value_tree, outcome_tree};
-ghost use Rattle.um_tree.specs.Meaning.{outcome_of_call};
-ghost use Rattle.um_cells.specs.Arguments.{AreArgumentsOf};
+ghost use Rattle.um_cells.specs.Running.{CanCall, EndsAsMeant};
 
 use std::alloc::Global;
 use um_tree::{Outcome, Values};
 use um_units::NoMemory;
 
-/// Runs the functions of one program.
+/// Runs the functions of a program.
 ///
 /// A call ends as the program's meaning has it: with a value, with a trap, or with the budget used up.
 pub trait Runner {
-    /// The program that it runs.
-    ghost program: { Self → ProgramTree };
+    /// The programs whose functions it runs. A runner that keeps code alone runs each program that has this code.
+    ghost runs: { Self → ProgramTree → Type 0 };
 
     /// Calls function `f`, counted from 0, on values in the order of its parameters. The call itself and each call
     /// that it makes take one from the budget.
@@ -25,8 +24,8 @@ pub trait Runner {
     /// The rule is this project's own: a big-step meaning of a call-by-value language, from left to right, with a
     /// budget of calls.
     fn call(&self, alloc: Global, f: u32, args: Values, budget: u64) -> Result<Outcome, NoMemory>
-        requires arguments { AreArgumentsOf (program self.now) f (map value_tree args.items.items) }
+        requires arguments { CanCall (runs self.now) f (map value_tree args.items.items) }
         requires budget { budget ≤ 10000000 }
-        ensures { IfOk result (λ outcome. outcome_of_call (program self.now) f (map value_tree args.items.items) budget
-            ≡ Some (outcome_tree outcome)) };
+        ensures { IfOk result (λ outcome. EndsAsMeant (runs self.now) f (map value_tree args.items.items) budget
+            (outcome_tree outcome)) };
 }

@@ -49,7 +49,7 @@ use Rattle.um_each_answer.proofs.Texts.{on_test}
 use Rattle.um_each_answer.proofs.Answers.{Told, of_checked}
 use Rattle.um_each_call.specs.Laws.{CallsHaveAnswers, TracesHaveAnswers, DisplaysHaveAnswers, GeneratedProgramsHaveAnswers}
 use Rattle.um_each_call.proofs.Named.{call_or_refusal}
-use Rattle.um_each_call.proofs.Outcomes.{Ended, each_ends, value_told, outcome_told, steps_told}
+use Rattle.um_each_call.proofs.Outcomes.{Ended, each_ends, value_told, outcome_told, ends_by}
 
 -- ---- refusals of words
 
@@ -161,9 +161,9 @@ module _ (each : EachTextIsAnswered) (stages : EachTextHasStages) (shaped : Faul
     unfolding RunAnswer
     run_told_by w call named =
         let (o, meant, ends) = asked_ends asked c shaped law bytes is call named in
-        let (steps, counted) = steps_told w asked.budget c.text.program call o ends in
+        let (steps, ended) = ends_by w asked.budget c.text.program call o meant ends in
         let (text, status, reply) = outcome_told c.text.program call.type o steps in
-        (text, status, (o, meant, steps, counted, reply))
+        (text, status, (o, steps, ended, reply))
 
     pub call_told : (w : Way) → Told (IsCallAnswer w asked c)
     unfolding IsCallAnswer

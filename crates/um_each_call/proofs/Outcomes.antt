@@ -18,7 +18,7 @@ use Rattle.um_reports.specs.CallRefusals.{trap_line}
 use Rattle.um_reports.specs.Steps.{line}
 use Rattle.um_call_answers.specs.declared.way.Way.{Way}
 use Rattle.um_call_answers.specs.declared.way.Way.TheVariants as way
-use Rattle.um_call_answers.specs.CallAnswer.{steps_text, IsValueReply, IsOutcomeReply, AreSteps}
+use Rattle.um_call_answers.specs.CallAnswer.{steps_text, IsValueReply, IsOutcomeReply, EndsBy}
 use Rattle.um_each_answer.proofs.Texts.{on_test}
 use Rattle.um_each_answer.proofs.Answers.{Told}
 use Rattle.um_each_call.proofs.Steps.{steps_are_counted}
@@ -48,11 +48,11 @@ outcome_told p t (value_outcome v) steps = value_told p t v steps
 outcome_told p t (trap_outcome why) steps = (trap_line why, Trapped, (refl, refl))
 outcome_told p t budget_outcome steps = (line (codes "error 13: budget"), BudgetEnd, (refl, refl))
 
--- ---- its steps are counted, if they are asked for
+-- ---- it is that of each way
 
-pub steps_told : (w : Way) (budget : ℕ) (p : ProgramTree) (call : CallTree) (o : OutcomeTree) → EndsWith (program_code p.functions) call.function (call_values call) budget o
-    → (steps : Option ℕ) × AreSteps w budget p call o steps
-steps_told way.Tree budget p call o ends = (None, refl)
-steps_told way.Code budget p call o ends = (None, refl)
-steps_told way.Counted budget p call o ends =
+pub ends_by : (w : Way) (budget : ℕ) (p : ProgramTree) (call : CallTree) (o : OutcomeTree) → outcome_of_call p call.function (call_values call) budget ≡ Some o → EndsWith (program_code p.functions) call.function (call_values call) budget o
+    → (steps : Option ℕ) × EndsBy w budget p call o steps
+ends_by way.Tree budget p call o meant ends = (None, (meant, refl))
+ends_by way.Code budget p call o meant ends = (None, (ends, refl))
+ends_by way.Counted budget p call o meant ends =
     let (k, counts) = steps_are_counted (program_code p.functions) call.function (call_values call) budget o ends in (Some k, (k, counts, refl))

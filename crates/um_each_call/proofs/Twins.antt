@@ -90,7 +90,7 @@ module _ (each : EachTextIsAnswered) (stages : EachTextHasStages) (shaped : Faul
           let (o, meant, ends) = asked_ends asked c shaped law bytes is call named in
           let (other, also, end) = also_ends fit all in
           let (text, status, reply) = outcomes_told p call.type o other in
-          (text, status, (o, meant, other, also, reply))
+          (text, status, (o, ends, other, end, reply))
 
       abbrev ByArguments : Option ℕ → List ℕ → Status → Type 0
       ByArguments m text status = MatchOption m (TwinRunAnswer asked.budget cs p call text status) (λ k. IsMisfitReply k text status)

@@ -69,7 +69,7 @@ pub extern "C" fn umc_embed_types(
 /// [`umc_embed_types`].
 ///
 /// `words` has the name of the function and its arguments in UTF-8, with a zero byte between each two. It takes time
-/// for the words, the names of the program and the run.
+/// for the words and the run.
 #[unsafe(no_mangle)]
 pub extern "C" fn umc_embed_call(
     alloc: Global,

@@ -12,6 +12,7 @@ mod hand;
 mod host;
 mod loose;
 mod opened;
+mod prepared;
 mod program;
 mod words;
 

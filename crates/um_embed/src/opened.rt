@@ -1,7 +1,6 @@
 // A program that is checked and compiled.
 ghost use Rattle.std.specs.Prelude.{◌≡◌, IfErr, IfOk};
 ghost use Rattle.um_tree.specs.ProgramTree.{program_tree};
-ghost use Rattle.um_gen.specs.ProgramCode.{program_code};
 ghost use Rattle.um_infer.specs.Answers.{scheme_trees};
 ghost use Rattle.um_reports.specs.declared.status.Status.TheVariants.{Done};
 ghost use Rattle.um_front.specs.Parts.{checked_tree};
@@ -12,37 +11,36 @@ ghost use Rattle.um_call_answers.specs.declared.way.Way.TheVariants as way;
 ghost use Rattle.um_call_answers.specs.AskedCall.{IsShortCall};
 ghost use Rattle.um_call_answers.specs.CallAnswer.{CallAnswer};
 ghost use Rattle.um_call_answers.specs.Calling.{asked_call};
+ghost use Rattle.um_embed.specs.Calling.{IsPreparedFor};
 
+use crate::prepared::{Prepared, prepare};
 use std::alloc::{AllocError, Global};
 use std::marker::Model;
 use um_answers::schemes_text;
 use um_call_answers::{CallWords, Compiled, answer_call_of};
 use um_front::{Answer, Checked, Text, check};
-use um_gen::generate;
-use um_machine::Code;
 use um_reports::{Reply, Status, reply_line};
 use um_run::callable_of;
 
 /// The longest text of a program, in bytes.
 const TEXT_LIMIT: usize = 1_048_576;
 
-/// A text's program, checked and compiled once for many calls. Contracts see the bytes of the text.
+/// A text's program, checked and prepared for calls. Contracts see the bytes of the text.
 #[derive(Drop)]
 pub struct Opened {
     checked: Checked,
-    code: Code,
+    prepared: Prepared,
 }
 
 impl Model for Opened {
-    ghost use Rattle.std.specs.Prelude.{◌≡◌, ℕ, List};
-    ghost use Rattle.um_tree.specs.ProgramTree.{program_tree};
-    ghost use Rattle.um_gen.specs.ProgramCode.{program_code};
+    ghost use Rattle.std.specs.Prelude.{ℕ, List};
+    ghost use Rattle.um_embed.specs.Calling.{IsPreparedFor};
 
     ghost Value = { List ℕ };
 
     ghost view = { λ o. o.checked.text.text.bytes.items };
 
-    ghost invariant = { λ o. o.code ≡ program_code (program_tree o.checked.text.shaped).functions };
+    ghost invariant = { λ o. IsPreparedFor o.checked o.prepared };
 }
 
 impl Opened {
@@ -68,7 +66,7 @@ impl Opened {
         ensures { IfOk result (λ reply. CallAnswer way.Code (asked_call call.now) self.now
             reply.text.items reply.status) }
     {
-        answer_in(alloc, call, &self.checked, &self.code)
+        answer_in(alloc, call, &self.checked, &self.prepared)
     }
 }
 
@@ -94,22 +92,20 @@ fn lines_of(alloc: Global, checked: &Checked) -> Result<Vec<u8>, AllocError>
     schemes_text(alloc, checked.program(), checked.schemes())
 }
 
-/// The answer to a call of a program with its code. The tables of its names are made anew.
+/// The answer to a call of a program.
 #[tactic(auto, unfolding(um_call_answers::specs::CallAnswer::CallAnswer))]
-fn answer_in(alloc: Global, call: &CallWords, checked: &Checked, code: &Code) -> Answer
+fn answer_in(alloc: Global, call: &CallWords, checked: &Checked, prepared: &Prepared) -> Answer
     requires call { IsShortCall (asked_call call.now) }
-    requires coded { code.now ≡ program_code (program_tree checked.now.text.shaped).functions }
+    requires prepared { IsPreparedFor checked.now prepared.now }
     ensures { IfOk result (λ reply. CallAnswer way.Code (asked_call call.now) checked.now.text.text.bytes.items
         reply.text.items reply.status) }
 {
     let shaped = checked.shaped();
     let schemes = checked.schemes();
     let abbreviations = checked.abbreviations();
-    let callable = callable_of(alloc, shaped, schemes, abbreviations)?;
-    let program = Compiled::new(checked, code);
-    let answer = answer_call_of(alloc, call, &program, &callable);
-    drop(callable);
-    answer
+    let callable = callable_of(shaped, schemes, abbreviations, &prepared.tables);
+    let program = Compiled::new(checked, &prepared.code);
+    answer_call_of(alloc, call, &program, &callable)
 }
 
 /// The program of these bytes, in a block of its own, or the answer to a text without one.
@@ -142,8 +138,8 @@ fn kept_program(alloc: Global, checked: Checked) -> Result<Box<Opened>, Answer>
     ensures refused { IfErr result (λ answer. IfOk answer (λ reply.
         IsUnchecked checked.text.text.bytes.items reply.text.items reply.status)) }
 {
-    match generate(alloc, checked.shaped()) {
-        Ok(code) => match Box::new(alloc, Opened { checked, code }) {
+    match prepare(alloc, &checked) {
+        Ok(prepared) => match Box::new(alloc, Opened { checked, prepared }) {
             Ok(opened) => Ok(opened),
             Err(failed) => Err(Err(failed.into())),
         },

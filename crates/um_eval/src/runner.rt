@@ -64,9 +64,10 @@ impl<'a> TreeRunner<'a> {
 }
 
 impl<'a> Runner for TreeRunner<'a> {
+    ghost use Rattle.std.specs.Prelude.{◌≡◌};
     ghost use Rattle.um_tree.specs.ProgramTree.{program_tree};
 
-    ghost program = { λ r. program_tree r };
+    ghost runs = { λ r p. p ≡ program_tree r };
 
     /// Evaluates the body of the function. Lists and records stand in cells of a store, so a variable is copied at
     /// once.

@@ -7,44 +7,62 @@ ghost use Rattle.um_value.specs.KnownNames.{known_in};
 ghost use Rattle.um_infer.specs.Answers.{scheme_trees};
 ghost use Rattle.um_infer.specs.Inference.{all_schemes, infer};
 ghost use Rattle.um_run.specs.Calls.{AreClosedUnits, IsCallOf, call_tree, call_answer};
-ghost use Rattle.um_run.specs.Callable.{IsCallable};
+ghost use Rattle.um_run.specs.Callable.{AreTablesOf, IsCallable};
 ghost use Rattle.um_run.specs.Laws.{IsTypedCall};
 
-use crate::callable::Callable;
+use crate::callable::{CallTables, Callable};
 use crate::read::read_known_call;
 use crate::{Call, CallRefusal};
 use std::alloc::{AllocError, Global};
-use um_measures::{Abbreviations, NameDigest, NameTable};
+use um_measures::{Abbreviations, NameDigest, NameTable, measures_of};
 use um_shape::Shaped;
 use um_tree::{Function, Schemes};
-use um_value::names_of;
+use um_value::known_names;
 
-/// The program with its tables of names. It takes time for all of its names. Want of memory is the one error.
-pub fn callable_of<'a>(
+/// The tables of the names of a program and its abbreviations. It takes time for all of them. Want of memory is the one
+/// error.
+pub fn tables_of(
     alloc: Global,
-    shaped: &'a Shaped,
-    schemes: &'a Schemes,
-    abbreviations: &'a Abbreviations,
-) -> Result<Callable<'a>, AllocError>
-    requires inferred { infer (program_tree shaped.now) ≡ all_schemes (scheme_trees schemes.now) }
-    requires closed { AreClosedUnits (length (program_tree shaped.now).bases) abbreviations.now }
-    ensures callable { IfOk result (λ c. IsCallable c) }
-    ensures program { IfOk result (λ c. c.shaped.now ≡ shaped.now) }
-    ensures schemes { IfOk result (λ c. c.schemes.now ≡ schemes.now) }
-    ensures abbreviations { IfOk result (λ c. (known_in c.names).shorts ≡ abbreviations.now) }
+    shaped: &Shaped,
+    abbreviations: &Abbreviations,
+) -> Result<CallTables, AllocError>
+    ensures { IfOk result (λ tables. AreTablesOf (program_tree shaped.now) abbreviations.now tables) }
 {
-    let functions = function_table(alloc, &shaped.program().functions.items)?;
-    match names_of(alloc, shaped.program(), abbreviations) {
-        Ok(names) => Ok(Callable {
-            shaped,
-            schemes,
-            names,
+    let program = shaped.program();
+    let functions = function_table(alloc, &program.functions.items)?;
+    match measures_of(alloc, program, abbreviations) {
+        Ok(measures) => Ok(CallTables {
+            measures,
             functions,
         }),
         Err(error) => {
             drop(functions);
             Err(error)
         }
+    }
+}
+
+/// The program with the tables of its names, which must be those of [`tables_of`]. Takes no memory.
+pub fn callable_of<'a>(
+    shaped: &'a Shaped,
+    schemes: &'a Schemes,
+    abbreviations: &'a Abbreviations,
+    tables: &'a CallTables,
+) -> Callable<'a>
+    requires inferred { infer (program_tree shaped.now) ≡ all_schemes (scheme_trees schemes.now) }
+    requires closed { AreClosedUnits (length (program_tree shaped.now).bases) abbreviations.now }
+    requires tables { AreTablesOf (program_tree shaped.now) abbreviations.now tables.now }
+    ensures callable { IsCallable result }
+    ensures program { result.shaped.now ≡ shaped.now }
+    ensures schemes { result.schemes.now ≡ schemes.now }
+    ensures abbreviations { (known_in result.names).shorts ≡ abbreviations.now }
+{
+    let names = known_names(shaped.program(), abbreviations, &tables.measures);
+    Callable {
+        shaped,
+        schemes,
+        names,
+        functions: &tables.functions,
     }
 }
 

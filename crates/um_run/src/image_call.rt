@@ -19,10 +19,10 @@ use crate::known::Known;
 use crate::{CallRefusal, ImageCall};
 use std::alloc::Global;
 use um_image::plain_records;
-use um_measures::Abbreviations;
+use um_measures::{Abbreviations, measures_of};
 use um_tree::{Functions, Inputs, Names, Program, Shape};
 use um_units::NoMemory;
-use um_value::names_of;
+use um_value::known_names;
 use um_verify::{Head, Image};
 
 /// The call of the image's function of this name with the arguments that the texts are.
@@ -125,14 +125,15 @@ fn inputs_of(
     ensures { AreArgumentsRead (given (program_tree program.now) abbreviations.now) (map shape_tree shapes.now)
         (map string_bytes texts.now) result }
 {
-    match names_of(alloc, program, abbreviations) {
-        Ok(names) => {
+    match measures_of(alloc, program, abbreviations) {
+        Ok(measures) => {
+            let names = known_names(program, abbreviations, &measures);
             let known = Known {
                 alloc,
                 names: &names,
             };
             let inputs = read_arguments(&known, shapes, texts);
-            drop(names);
+            drop(measures);
             inputs
         }
         Err(_) => Err(CallRefusal::NoMemory),

@@ -6,7 +6,8 @@
 //!
 //! ```
 //! let call = read_call(alloc, &shaped, &schemes, &abbreviations, "mean", &texts)?;
-//! let callable = callable_of(alloc, &shaped, &schemes, &abbreviations)?; // once, for many calls
+//! let tables = tables_of(alloc, &shaped, &abbreviations)?; // once, for many calls
+//! let callable = callable_of(&shaped, &schemes, &abbreviations, &tables);
 //! let call = read_call_of(alloc, &callable, "mean", &texts)?;
 //! let args = argument_values(alloc, &call.inputs)?; // the values to run on; call.ty is the call's type
 //! let call = read_image_call(alloc, verified.image(), "mean", &texts)?;
@@ -26,8 +27,8 @@ mod read;
 mod values;
 
 pub use call::{Call, CallRefusal, ImageCall};
-pub use callable::Callable;
-pub use calling::{callable_of, read_call_of};
+pub use callable::{CallTables, Callable};
+pub use calling::{callable_of, read_call_of, tables_of};
 pub use function::function_named;
 pub use image_call::{program_of, read_image_call};
 pub use read::read_call;

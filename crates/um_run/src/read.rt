@@ -17,10 +17,10 @@ use crate::known::Known;
 use crate::{Call, CallRefusal};
 use std::alloc::Global;
 use um_infer::{CallStop, type_call};
-use um_measures::Abbreviations;
+use um_measures::{Abbreviations, measures_of};
 use um_shape::Shaped;
 use um_tree::{Inputs, Schemes};
-use um_value::{KnownNames, names_of};
+use um_value::{KnownNames, known_names};
 
 /// The call of the function of this name with the arguments that the texts are, given the schemes that `infer` answered
 /// for the program, and its abbreviations.
@@ -76,10 +76,12 @@ fn call_to(
         → IsCallTo (program_tree shaped.now) abbreviations.now (scheme_trees schemes.now) function f
         (map string_bytes texts.now) (call_answer result) }
 {
-    match names_of(alloc, shaped.program(), abbreviations) {
-        Ok(names) => {
+    let program = shaped.program();
+    match measures_of(alloc, program, abbreviations) {
+        Ok(measures) => {
+            let names = known_names(program, abbreviations, &measures);
             let call = read_known_call(alloc, shaped, schemes, &names, function, texts);
-            drop(names);
+            drop(measures);
             call
         }
         Err(_) => Err(CallRefusal::NoMemory),

@@ -1,10 +1,9 @@
 // Two runs side by side: a program's, and the rescaled program's.
-ghost use Rattle.std.specs.Prelude.{◌≡◌, ◌≤◌, IfOk, Some, map};
+ghost use Rattle.std.specs.Prelude.{◌≡◌, ◌≤◌, IfOk, map};
 ghost use Rattle.um_tree.specs.ValueTree.{value_tree, outcome_tree};
-ghost use Rattle.um_tree.specs.Meaning.{outcome_of_call};
-ghost use Rattle.um_cells.specs.Arguments.{AreArgumentsOf};
+ghost use Rattle.um_cells.specs.Running.{CanCall, EndsAsMeant};
 ghost use Rattle.um_scale.specs.Sizes.{sizes};
-ghost use Rattle.um_scale.specs.TwinRuns.{AreTwins};
+ghost use Rattle.um_scale.specs.TwinRuns.{EndAsTwins};
 
 use crate::{Scales, Twin};
 use std::alloc::Global;
@@ -30,14 +29,14 @@ pub fn twin<R: Runner>(
     scaled: Values,
     budget: u64,
 ) -> Result<Twin, NoMemory>
-    requires first_arguments { AreArgumentsOf (R.program first.now) f (map value_tree args.items.items) }
-    requires second_arguments { AreArgumentsOf (R.program second.now) f (map value_tree scaled.items.items) }
+    requires first_arguments { CanCall (R.runs first.now) f (map value_tree args.items.items) }
+    requires second_arguments { CanCall (R.runs second.now) f (map value_tree scaled.items.items) }
     requires budget { budget ≤ 10000000 }
-    ensures first { IfOk result (λ t. outcome_of_call (R.program first.now) f (map value_tree args.items.items) budget
-        ≡ Some (outcome_tree t.first)) }
-    ensures second { IfOk result (λ t. outcome_of_call (R.program second.now) f (map value_tree scaled.items.items)
-        budget ≡ Some (outcome_tree t.second)) }
-    ensures scaled { IfOk result (λ t. AreTwins (R.program first.now) (R.program second.now) (sizes scales.now) f
+    ensures first { IfOk result (λ t. EndsAsMeant (R.runs first.now) f (map value_tree args.items.items) budget
+        (outcome_tree t.first)) }
+    ensures second { IfOk result (λ t. EndsAsMeant (R.runs second.now) f (map value_tree scaled.items.items) budget
+        (outcome_tree t.second)) }
+    ensures scaled { IfOk result (λ t. EndAsTwins (R.runs first.now) (R.runs second.now) (sizes scales.now) f
         (map value_tree args.items.items) (map value_tree scaled.items.items)
         (outcome_tree t.first) (outcome_tree t.second)) }
 {
@@ -60,11 +59,11 @@ fn beside<R: Runner>(
     args: Values,
     budget: u64,
 ) -> Result<Twin, NoMemory>
-    requires arguments { AreArgumentsOf (R.program second.now) f (map value_tree args.items.items) }
+    requires arguments { CanCall (R.runs second.now) f (map value_tree args.items.items) }
     requires budget { budget ≤ 10000000 }
     ensures first { IfOk result (λ t. outcome_tree t.first ≡ outcome_tree first) }
-    ensures second { IfOk result (λ t. outcome_of_call (R.program second.now) f (map value_tree args.items.items) budget
-        ≡ Some (outcome_tree t.second)) }
+    ensures second { IfOk result (λ t. EndsAsMeant (R.runs second.now) f (map value_tree args.items.items) budget
+        (outcome_tree t.second)) }
 {
     match second.call(alloc, f, args, budget) {
         Ok(second) => Ok(Twin { first, second }),

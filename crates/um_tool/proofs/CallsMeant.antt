@@ -40,6 +40,7 @@ use Rattle.um_call_answers.specs.declared.way.Way.{Way}
 use Rattle.um_call_answers.specs.AskedCall.{AskedCall}
 use Rattle.um_call_answers.specs.OfCall.{IsAskedCall, OfCall}
 use Rattle.um_call_answers.specs.CallAnswer.{CallAnswer, IsCallAnswer, RunAnswer}
+use Rattle.um_call_answers.proofs.CallEnds.{ends_meant, checked_shaped}
 use Rattle.um_tool.specs.Asked.{called, held_name, signature_text}
 use Rattle.um_tool.specs.Answer.{Answer, ByOrder}
 use Rattle.um_tool.specs.CallLaws.{IsCall, ends_a_call, IsMeantCall, EndedCallsAreMeant, is_verdict, IsVerdict, VerdictsSayWhatTypingsAre}
@@ -102,10 +103,11 @@ module _ (way : Way) (asked : AskedCall) (bytes text : List ℕ) (status : Statu
   -- the run of a call that has a type
   pub run_meant : (c : CheckedTree) → IsCheckedText bytes c → (call : CallTree) → IsAskedCall asked c call → RunAnswer way asked.budget c.text.program call text status → IsMeantCall way asked bytes text status
   unfolding RunAnswer
-  run_meant c is call named (o, meant, steps, counted, printed) =
+  run_meant c is call named (o, steps, ended, printed) =
       let p = c.text.program in
       let known = checked_is_known bytes c is in
       let typed = calls_are_typed p c.text.abbreviations c.schemes asked.name asked.texts known call named in
+      let meant = ends_meant asked.budget p call (checked_shaped bytes c is) typed.arguments way o steps ended in
       record {
         checked = c;
         spelled = is;
@@ -117,7 +119,7 @@ module _ (way : Way) (asked : AskedCall) (bytes text : List ℕ) (status : Statu
         meant = meant;
         free_zeros = λ v value. free_zeros_of_calls p call.function (inputs_in_order call.inputs) (call_values call) call.type asked.budget v known.formed typed.inputs (in_order call.inputs) typed.type (subst (λ out. outcome_of_call p call.function (call_values call) asked.budget ≡ Some out) value meant);
         steps = steps;
-        counted = counted;
+        ended = ended;
         printed = printed;
       }
 

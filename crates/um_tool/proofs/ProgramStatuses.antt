@@ -76,7 +76,7 @@ module _ (text : List ℕ) (status : Status) where
 
   run_not_named : (way : Way) (budget : ℕ) (p : ProgramTree) (call : CallTree) → RunAnswer way budget p call text status → Named → ⊥
   unfolding RunAnswer
-  run_not_named way budget p call (o, meant, steps, counted, reply) = outcome_not_named p call.type o steps reply
+  run_not_named way budget p call (o, steps, ended, reply) = outcome_not_named p call.type o steps reply
 
   of_call_not_named : (Says : ProgramTree → CallTree → List ℕ → Status → Type 0) (asked : AskedCall) (c : CheckedTree) → ((call : CallTree) → Says c.text.program call text status → Named → ⊥) → OfCall Says asked c text status → Named → ⊥
   of_call_not_named Says asked c none (inl (call, named, says)) = none call says
@@ -190,7 +190,7 @@ module _ (text : List ℕ) (status : Status) where
 
   runs_not_named : (budget : ℕ) (cs : List Frac) (p : ProgramTree) (call : CallTree) → TwinRunAnswer budget cs p call text status → Named → ⊥
   unfolding TwinRunAnswer
-  runs_not_named budget cs p call (o, meant, e, also, replies) = outcomes_not_named p call.type o e replies
+  runs_not_named budget cs p call (o, ended, e, also, replies) = outcomes_not_named p call.type o e replies
 
   inputs_not_named : (budget : ℕ) (cs : List Frac) (p : ProgramTree) (call : CallTree) → InputsAnswer budget cs p call text status → Named → ⊥
   unfolding InputsAnswer

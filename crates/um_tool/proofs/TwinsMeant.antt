@@ -6,6 +6,7 @@ use Rattle.um_tree.specs.ValueTree.{without_units}
 use Rattle.um_tree.specs.ProgramTree.{ProgramTree}
 use Rattle.um_tree.specs.Meaning.{outcome_of_call}
 use Rattle.um_scaling.proofs.ScalingLaw.{scaling_law}
+use Rattle.um_vm.proofs.Calls.{run_is_meant}
 use Rattle.um_scale.specs.Sizes.{AreSizes, sizes}
 use Rattle.um_scale.specs.RescaledLiterals.{misfit_in, rescaled_program}
 use Rattle.um_scale.specs.RescaledInputs.{rescaled_input}
@@ -35,6 +36,8 @@ use Rattle.um_answers.specs.RescaleAnswer.{LiteralsAnswer, BySizes, IsRescaled, 
 use Rattle.um_call_answers.specs.AskedCall.{AskedCall}
 use Rattle.um_call_answers.specs.OfCall.{IsAskedCall}
 use Rattle.um_call_answers.specs.TwinAnswer.{TwinRunAnswer, misfit_among, rescaled_values, InputsAnswer, TwinLiteralsAnswer, SizedAnswer, ByTwinSizes, IsTwinAnswer, TwinAnswer}
+use Rattle.um_call_answers.proofs.CallEnds.{checked_shaped}
+use Rattle.um_call_answers.proofs.EndsAsMeant.{second_is_meant}
 use Rattle.um_call_answers.proofs.TwinArguments.{all_fit}
 use Rattle.um_tool.specs.Asked.{rescale_sizes, twin_sizes, called_twice}
 use Rattle.um_tool.specs.Answer.{Answer}
@@ -125,7 +128,7 @@ rescaled_texts_are_read law words bytes text ordered answer =
 module _ (word : List ℕ) (asked : AskedCall) (bytes text : List ℕ) (status : Status) (c : CheckedTree) (is : IsCheckedText bytes c) (cs : List Frac) (read : AreScalesRead c.text.program.bases word (Ok cs)) where
   pub runs_related : (call : CallTree) → IsAskedCall asked c call → misfit_in cs c.text.program.functions ≡ None → misfit_among cs call.inputs ≡ None → TwinRunAnswer asked.budget cs c.text.program call text status → IsTwinCall word asked bytes text status
   unfolding TwinRunAnswer
-  runs_related call named fit all (o, meant, e, also, printed) =
+  runs_related call named fit all (o, ended, e, ended_too, printed) =
       let p = c.text.program in
       let known = checked_is_known bytes c is in
       let typed = calls_are_typed p c.text.abbreviations c.schemes asked.name asked.texts known call named in
@@ -134,6 +137,8 @@ module _ (word : List ℕ) (asked : AskedCall) (bytes text : List ℕ) (status :
       let rescaled = program_rescaled cs above p fit in
       let inputs = all_rescaled cs above call.inputs (all_fit cs call.inputs all) in
       let js = map (rescaled_input cs) call.inputs in
+      let meant = run_is_meant p call.function (call_values call) typed.arguments asked.budget o (checked_shaped bytes c is) ended in
+      let also = second_is_meant word asked bytes c cs call is read named fit all e ended_too in
       record {
         both = in_sizes word bytes c is cs read fit;
         principal = schemes_are_principal bytes c is;

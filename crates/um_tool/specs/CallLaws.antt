@@ -27,7 +27,7 @@ use Rattle.um_front.specs.Stages.{CheckedTree, IsCheckedText}
 use Rattle.um_call_answers.specs.declared.way.Way.{Way}
 use Rattle.um_call_answers.specs.declared.way.Way.TheVariants as way
 use Rattle.um_call_answers.specs.AskedCall.{AskedCall}
-use Rattle.um_call_answers.specs.CallAnswer.{AreSteps, IsOutcomeReply}
+use Rattle.um_call_answers.specs.CallAnswer.{EndsBy, IsOutcomeReply}
 use Rattle.um_call_answers.specs.OfCall.{IsAskedCall}
 use Rattle.um_tool.specs.Asked.{called, held_name, signature_text}
 use Rattle.um_tool.specs.Answer.{Answer}
@@ -56,8 +56,8 @@ ends_a_call BudgetEnd = true
 ends_a_call status = false
 
 -- This is a call in the program that the bytes spell, given its principal schemes; the call has a type, and the text
--- and the status are those of its meaning's outcome at the budget, with the steps of the code's run if they are
--- counted. A number of its value is 0 if its unit isn't closed.
+-- and the status are those of its meaning's outcome at the budget. Run in this way, the call ends with it, and if steps
+-- are counted, they are told, too. A number of its value is 0 if its unit isn't closed.
 pub record IsMeantCall (way : Way) (asked : AskedCall) (bytes text : List ℕ) (status : Status) : Type 0 where
   pub checked : CheckedTree
   pub spelled : IsCheckedText bytes checked
@@ -69,7 +69,7 @@ pub record IsMeantCall (way : Way) (asked : AskedCall) (bytes text : List ℕ) (
   pub meant : outcome_of_call checked.text.program call.function (call_values call) asked.budget ≡ Some outcome
   pub free_zeros : (v : ValueTree) → outcome ≡ value_outcome v → IsFreeZero checked.text.program.records v call.type
   pub steps : Option ℕ
-  pub counted : AreSteps way asked.budget checked.text.program call outcome steps
+  pub ended : EndsBy way asked.budget checked.text.program call outcome steps
   pub printed : IsOutcomeReply checked.text.program call.type outcome steps text status
 
 -- A call that is answered with such a status ended as its meaning has it.

@@ -1,5 +1,5 @@
 -- The answer to `trace` follows that of `run`.
-use Rattle.std.proofs.Common.{◌≡◌, ℕ, zero, suc, List, ◌++◌, Some, None, refl, inl, inr, sym, ap, subst, ◌∙◌}
+use Rattle.std.proofs.Common.{◌≡◌, ℕ, zero, suc, List, ◌++◌, None, refl, inl, inr, sym, ap, subst, ◌∙◌}
 use Rattle.std.specs.Prelude.{Option, codes}
 use Rattle.um_parse.specs.Laws.{AnswersAreUnique}
 use Rattle.um_frac.specs.declared.number.Trap.{Trap}
@@ -19,6 +19,7 @@ use Rattle.um_call_answers.specs.declared.way.Way.TheVariants as way
 use Rattle.um_call_answers.specs.AskedCall.{AskedCall}
 use Rattle.um_call_answers.specs.CallAnswer.{CallAnswer, IsCallAnswer, RunAnswer, IsOutcomeReply}
 use Rattle.um_call_answers.proofs.CallStage.{call_given}
+use Rattle.um_call_answers.proofs.CallEnds.{ends_with_meant}
 use Rattle.um_call_answers.proofs.UniqueReplies.{one_outcome_reply, call_once, call_one}
 use Rattle.um_trace_answers.specs.TraceText.{stop_label, where_text}
 use Rattle.um_trace_answers.specs.TraceAnswer.{IsStopTold, IsTracedEnd, TracedRun, IsTraceAnswer, TraceAnswer}
@@ -52,11 +53,10 @@ module _ (text run_text : List ℕ) (status ended : Status) where
 
   run_follows : (budget : ℕ) (bytes : List ℕ) (p : ProgramTree) (call : CallTree) → TracedRun bytes budget p call text status → RunAnswer way.Code budget p call run_text ended → Follows text status run_text ended
   unfolding TracedRun RunAnswer
-  run_follows budget bytes p call (o, meant, a) (e, also, steps, counted, b) =
-      let both : Some o ≡ Some e = sym meant ∙ also in
-      let same : o ≡ e = cc both in
-      end_follows budget bytes p call e (subst (λ x. IsTracedEnd budget bytes p call x text status) same a)
-      (subst (λ (n : Option ℕ). IsOutcomeReply p call.type e n run_text ended) counted b)
+  run_follows budget bytes p call (o, meant, a) (e, steps, (by, none), b) =
+      let same = ends_with_meant budget p call way.Code e o steps meant (by, none) in
+      end_follows budget bytes p call e (subst (λ x. IsTracedEnd budget bytes p call x text status) (sym same) a)
+      (subst (λ (n : Option ℕ). IsOutcomeReply p call.type e n run_text ended) none b)
 
   call_follows : (asked : AskedCall) (bytes : List ℕ) (c : CheckedTree) → IsCheckedText bytes c → IsTraceAnswer asked bytes c text status → IsCallAnswer way.Code asked c run_text ended → Follows text status run_text ended
   unfolding IsTraceAnswer IsCallAnswer

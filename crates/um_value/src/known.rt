@@ -9,11 +9,11 @@ use um_tree::Program;
 
 /// The names that value texts may use: a program, its abbreviations, and the table of their measures, which is made
 /// once for many texts.
-#[derive(Drop)]
+#[derive(Clone, Copy)]
 pub struct KnownNames<'a> {
     pub program: &'a Program,
     pub abbreviations: &'a Abbreviations,
-    pub measures: Measures,
-    ghost named: { (x : List ℕ) → short_unit measures x
+    pub measures: &'a Measures,
+    ghost named: { (x : List ℕ) → short_unit measures.now x
         ≡ measure_unit (given (program_tree program.now) abbreviations.now) x },
 }

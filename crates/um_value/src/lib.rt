@@ -6,7 +6,8 @@
 //! ```
 //! let input = read_value(alloc, "[1<m>; 2.5<m>]", &shape, &program, &abbreviations)?;
 //!
-//! let known = names_of(alloc, &program, &abbreviations)?; // once, for many texts
+//! let measures = measures_of(alloc, &program, &abbreviations)?; // once, for many texts
+//! let known = known_names(&program, &abbreviations, &measures);
 //! let input = read_known_value(alloc, "[1<m>; 2.5<m>]", &shape, &known)?;
 //! ```
 #![tactic(auto)]
@@ -24,6 +25,6 @@ mod stop;
 mod wanted;
 
 pub use known::KnownNames;
-pub use read::{names_of, read_known_value, read_value};
+pub use read::{known_names, read_known_value, read_value};
 pub use stop::InputStop;
 pub use um_cells::Runner;

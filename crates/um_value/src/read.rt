@@ -1,5 +1,5 @@
 // Arguments as a user writes them.
-ghost use Rattle.std.specs.Prelude.{◌≡◌, ◌≤◌, All, IfOk, length};
+ghost use Rattle.std.specs.Prelude.{◌≡◌, ◌≤◌, ℕ, All, IfOk, List, length};
 ghost use Rattle.um_tree.specs.Formed.{IsFormed, IsUnitIn, IsFormedInput};
 ghost use Rattle.um_tree.specs.InputType.{ValueHas};
 ghost use Rattle.um_tree.specs.ValueTree.{input_tree, without_units};
@@ -20,7 +20,7 @@ use crate::names::name_fault;
 use crate::raw::RawValue;
 use crate::reading::read_raw;
 use crate::stop::InputStop;
-use std::alloc::{AllocError, Global};
+use std::alloc::Global;
 use um_measures::{Abbreviations, Measures, measures_of};
 use um_syntax::{LexStop, Tokens, lex};
 use um_tree::{Input, Program, Shape};
@@ -49,28 +49,29 @@ fn checked_input(alloc: Global, measures: &Measures, raw: &RawValue) -> Result<I
     }
 }
 
-/// The names of a program and its abbreviations. It takes time for all of its measures. Want of memory is the one
-/// error.
-pub fn names_of<'a>(
-    alloc: Global,
+/// The names of a program and its abbreviations, with the table that `um_measures::measures_of` makes of them. Takes no
+/// memory.
+pub fn known_names<'a>(
     program: &'a Program,
     abbreviations: &'a Abbreviations,
-) -> Result<KnownNames<'a>, AllocError>
-    ensures { IfOk result (λ names. known_in names ≡ given (program_tree program.now) abbreviations.now) }
+    measures: &'a Measures,
+) -> KnownNames<'a>
+    requires { (x : List ℕ) → short_unit measures.now x
+        ≡ measure_unit (given (program_tree program.now) abbreviations.now) x }
+    ensures { known_in result ≡ given (program_tree program.now) abbreviations.now }
 {
-    let measures = measures_of(alloc, program, abbreviations)?;
-    Ok(KnownNames {
+    KnownNames {
         program,
         abbreviations,
         measures,
-    })
+    }
 }
 
 // The same, with the measures of the names.
 fn named_input(alloc: Global, known: &KnownNames, raw: &RawValue) -> Result<Input, InputStop>
     ensures { IsNamed (measure_unit (known_in known.now)) (value_syntax raw.now) result }
 {
-    checked_input(alloc, &known.measures, raw)
+    checked_input(alloc, known.measures, raw)
 }
 
 /// The input of a shape that a text is, with names that are known.
@@ -134,8 +135,9 @@ pub fn read_value(
     ensures formed { All (λ (short : Abbreviation). IsUnitIn (length program.now.bases) 0 short.unit) abbreviations.now
         → IfOk result (λ input. IsFormedInput (length program.now.bases) (input_tree input)) }
 {
-    let known = names_of(alloc, program, abbreviations)?;
+    let measures = measures_of(alloc, program, abbreviations)?;
+    let known = known_names(program, abbreviations, &measures);
     let input = read_known_value(alloc, text, shape, &known);
-    drop(known);
+    drop(measures);
     input
 }

@@ -1,6 +1,7 @@
 mod Taken
 mod Settled
 mod Acted
+pub mod Calls
 mod Leaping
 mod Shown
 mod Counted

@@ -1,9 +1,11 @@
--- What is trusted: in which state a machine is, what its steps answer, and how they are counted.
+-- What is trusted: in which state a machine is, what its steps answer, how they are counted, and which programs are run
+-- by code.
 pub mod Carrying
 pub mod Going
 pub mod Ends
 pub mod Showing
 pub mod Counting
+pub mod Running
 -- What the definitions come to: statements, each proved as the contract of a function of src/laws.rt.
 pub mod Laws
 -- What mirrors the code: what an operation gives, what it leaves on the stack, what a step of a run comes to, and how

@@ -5,53 +5,45 @@ use std::marker::Model;
 use um_cells::Runner;
 use um_machine::Code;
 use um_shape::Shaped;
-use um_tree::{Outcome, Program, Values};
+use um_tree::{Outcome, Values};
 use um_units::NoMemory;
 
-/// Runs the functions of a shaped program by its code. Contracts see the program.
+/// Runs the functions of shaped programs by their code, which is all that it keeps. Contracts see the code.
 #[derive(Drop)]
 pub struct CodeRunner<'a> {
-    program: &'a Program,
     code: &'a Code,
 }
 
 impl<'a> Model for CodeRunner<'a> {
-    ghost use Rattle.um_tree.specs.declared.program.Program.{Program};
-    ghost use Rattle.um_tree.specs.contracts.program.Program.{the_row};
+    ghost use Rattle.um_machine.specs.declared.code.Code.{Code};
+    ghost use Rattle.um_machine.specs.contracts.code.Code.{the_row};
 
-    ghost Value = { Program };
+    ghost Value = { Code };
 
     ghost coded = { the_row.coded };
 
-    ghost use Rattle.std.specs.Prelude.{◌≡◌};
-    ghost use Rattle.um_tree.specs.ProgramTree.{program_tree};
-    ghost use Rattle.um_tree.specs.Shapes.{IsShaped};
-    ghost use Rattle.um_gen.specs.ProgramCode.{program_code};
-
-    ghost view = { λ r. r.program.now };
-
-    ghost invariant = { λ r. IsShaped (program_tree r.program.now)
-        × (r.code.now ≡ program_code (program_tree r.program.now).functions) };
+    ghost view = { λ r. r.code.now };
 }
 
 impl<'a> CodeRunner<'a> {
-    ghost use Rattle.std.specs.Prelude.{◌≡◌, IfOk, Some, map};
+    ghost use Rattle.std.specs.Prelude.{◌≡◌, IfOk, map};
     ghost use Rattle.um_tree.specs.ProgramTree.{program_tree};
     ghost use Rattle.um_tree.specs.ValueTree.{value_tree, outcome_tree};
-    ghost use Rattle.um_tree.specs.Meaning.{outcome_of_call};
-    ghost use Rattle.um_cells.specs.Arguments.{AreArgumentsOf};
+    ghost use Rattle.um_cells.specs.Running.{CanCall};
+    ghost use Rattle.um_machine.specs.Machine.{EndsWith};
     ghost use Rattle.um_gen.specs.ProgramCode.{program_code};
     ghost use Rattle.um_vm.specs.Counting.{CountsSteps};
+    ghost use Rattle.um_vm.specs.Running.{IsCodeOf};
 
-    /// A runner of the program by its code, which must be what `generate` gives for it. Takes no memory.
-    pub fn new(shaped: &'a Shaped, code: &'a Code) -> CodeRunner<'a>
+    /// A runner of the program by its code, which must be what `generate` gives for it. It keeps the code alone. Takes
+    /// no memory.
+    pub fn new(shaped: &Shaped, code: &'a Code) -> CodeRunner<'a>
         requires { code.now ≡ program_code (program_tree shaped.now).functions }
-        ensures { result ≡ shaped.now }
+        ensures code { result ≡ code.now }
+        ensures runs { IsCodeOf result (program_tree shaped.now) }
     {
-        CodeRunner {
-            program: shaped.program(),
-            code,
-        }
+        let _program = shaped.program();
+        CodeRunner { code }
     }
 
     /// Calls function `f`, counted from 0, on values in the order of its parameters, and counts the steps that the
@@ -60,7 +52,7 @@ impl<'a> CodeRunner<'a> {
     /// `f` is the number of a function of the program, and the values have the shapes of its parameters. `NoMemory` is
     /// the one error.
     ///
-    /// The rule is this project's own: the code's run ends as the meaning of the call does.
+    /// The rule is this project's own: the call ends as the run of the code does.
     pub fn count_steps(
         &self,
         alloc: Global,
@@ -68,20 +60,20 @@ impl<'a> CodeRunner<'a> {
         args: Values,
         budget: u64,
     ) -> Result<CountedOutcome, NoMemory>
-        requires { AreArgumentsOf (program_tree self.now) f (map value_tree args.items.items) }
-        ensures outcome { IfOk result (λ counted. outcome_of_call (program_tree self.now) f
-            (map value_tree args.items.items) budget ≡ Some (outcome_tree counted.outcome)) }
-        ensures steps { IfOk result (λ counted. CountsSteps (program_code (program_tree self.now).functions) f
-            (map value_tree args.items.items) budget (outcome_tree counted.outcome) counted.steps) }
+        requires { CanCall (λ p. IsCodeOf self.now p) f (map value_tree args.items.items) }
+        ensures end { IfOk result (λ counted. EndsWith self.now f (map value_tree args.items.items) budget
+            (outcome_tree counted.outcome)) }
+        ensures steps { IfOk result (λ counted. CountsSteps self.now f (map value_tree args.items.items) budget
+            (outcome_tree counted.outcome) counted.steps) }
     {
         run_code(alloc, self.code, f, args, budget)
     }
 }
 
 impl<'a> Runner for CodeRunner<'a> {
-    ghost use Rattle.um_tree.specs.ProgramTree.{program_tree};
+    ghost use Rattle.um_vm.specs.Running.{IsCodeOf};
 
-    ghost program = { λ r. program_tree r };
+    ghost runs = { λ code p. IsCodeOf code p };
 
     /// Runs the code of the function. Lists and records stand in cells of a store, so a variable is copied at once.
     fn call(&self, alloc: Global, f: u32, args: Values, budget: u64) -> Result<Outcome, NoMemory> {

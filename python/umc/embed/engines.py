@@ -14,15 +14,29 @@ from typing import Protocol, TypeVar
 from umc import program as processes
 from umc.arguments import before_calls, lines_of_calls
 from umc.call_commands import ask as ask_any_length
+from umc.errors import WordsTooLong
 from umc.limits import NONE, Limits
 from umc.program import Answer
 from umc.texts import Source, Text
 
 CHUNK = 10_000
+NO_ZERO = "no word may hold the character 0"
 PROBES = processes.PROBES
 UNKNOWN_WORDS = processes.UNKNOWN_WORDS
 Piece = TypeVar("Piece")
 Made = TypeVar("Made")
+
+
+def words_line(words: Sequence[str]) -> bytes:
+    """The words of a call in one line, with a zero byte between each two."""
+    if "\0" in "".join(words):
+        raise WordsTooLong(NO_ZERO)
+    return "\0".join(words).encode("utf-8", "surrogateescape")
+
+
+def line_words(line: bytes) -> list[str]:
+    """The words of a line."""
+    return line.decode("utf-8", "surrogateescape").split("\0")
 
 
 def line_of(answer: Answer) -> str:
@@ -48,9 +62,9 @@ class Handle(Protocol):
     def ask(self, words: Sequence[str]) -> Answer:
         """The answer of a command on the text."""
 
-    def call(self, budget: int, words: Sequence[str]) -> str | Answer:
-        """The value that one call prints, or the answer that refuses it: the words are the function's name and its
-        arguments.
+    def call(self, budget: int, line: bytes) -> str | Answer:
+        """The value that one call prints, or the answer that refuses it: the line has the function's name and its
+        arguments, with a zero byte between each two.
         """
 
     def calls(self, budget: int, name: str, columns: Sequence[list[str]]) -> list[str] | Answer:
@@ -133,9 +147,9 @@ class TextHandle:
         """The answer of a command on the text."""
         return self._engine.answer(words, self._text)
 
-    def call(self, budget: int, words: Sequence[str]) -> str | Answer:
+    def call(self, budget: int, line: bytes) -> str | Answer:
         """The value that one call prints, or the answer that refuses it."""
-        answer = self.ask(["run", str(budget), *words])
+        answer = self.ask(["run", str(budget), *line_words(line)])
         return line_of(answer) if answer.status == 0 else answer
 
     def calls(self, budget: int, name: str, columns: Sequence[list[str]]) -> list[str] | Answer:

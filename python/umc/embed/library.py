@@ -5,11 +5,11 @@ import os
 import resource
 import sys
 from collections.abc import Sequence
-from functools import cache, cached_property
+from functools import cache
 from pathlib import Path
 from typing import Any, NamedTuple
 
-from umc.embed.engines import PROBES, UNKNOWN_WORDS, Handle, TextHandle
+from umc.embed.engines import NO_ZERO, PROBES, UNKNOWN_WORDS, Handle, TextHandle
 from umc.errors import Unavailable, WordsTooLong
 from umc.program import HOME, Answer, is_checkout
 
@@ -19,7 +19,6 @@ VARIABLE = "UMC_LIBRARY"
 NO_LIBRARY = ("", "none")
 FIRST_ROOM = 1 << 12     # bytes for the answer of a call; a longer one is computed twice
 MOST_BUDGET = (1 << 64) - 1     # that the library's call can be handed
-NO_ZERO = "no word may hold the character 0"
 
 
 def folders() -> list[Path]:
@@ -114,58 +113,38 @@ class Library:
 
 
 class Room(NamedTuple):
-    """Room for an answer and for its size, their addresses, and how many bytes an answer may have."""
+    """Room for an answer and for its size, and what tells the library of them: it is made once for many calls."""
 
     answer: "ctypes.Array[ctypes.c_char]"
     size: ctypes.c_size_t
-    answer_at: int
-    size_at: int
-    most: int
+    answer_at: ctypes.c_void_p
+    most: ctypes.c_size_t
+    size_at: ctypes.c_void_p
 
 
 def room_for(most: int) -> Room:
     """Room for an answer of so many bytes."""
     answer, size = ctypes.create_string_buffer(most), ctypes.c_size_t()
-    return Room(answer, size, ctypes.addressof(answer), ctypes.addressof(size), most)
+    return Room(answer, size, ctypes.c_void_p(ctypes.addressof(answer)), ctypes.c_size_t(most),
+                ctypes.c_void_p(ctypes.addressof(size)))
 
 
 class Kept:
     """A program that the library keeps open until nothing refers to it; none if the text is refused.
 
-    answer: what the library answers to `types`
+    answer: what the library answers to `types`; rooms: one for each thread that called at the same time
     """
 
     def __init__(self, library: Library, text: bytes):
-        self._library, self._program = library, ctypes.c_void_p()
+        self._library, self.program = library, ctypes.c_void_p()
         begin, size = ctypes.c_void_p(), ctypes.c_size_t()
-        status = library._open(text, len(text), ctypes.byref(self._program), ctypes.byref(begin), ctypes.byref(size))
+        status = library._open(text, len(text), ctypes.byref(self.program), ctypes.byref(begin), ctypes.byref(size))
         self.answer = library._taken(status, begin, size)
-        self.at, self._call = self._program.value, library._call_into
-        self._rooms: list[Room] = []    # one for each thread that called at the same time
-
-    def call(self, budget: int, words: Sequence[str]) -> str | Answer:
-        """The value that a call prints, or the answer that refuses it.
-
-        Other threads run meanwhile, but for those that call the same program.
-        """
-        given = "\0".join(words).encode("utf-8", "surrogateescape")
-        if given.count(0) >= len(words):
-            raise WordsTooLong(NO_ZERO)
-        try:
-            room = self._rooms.pop()
-        except IndexError:
-            room = room_for(FIRST_ROOM)
-        answer, size, answer_at, size_at, most = room
-        status = self._call(self.at, budget, given, len(given), answer_at, most, size_at)
-        if size.value > most:
-            answer, size, answer_at, size_at, most = room_for(size.value)
-            status = self._call(self.at, budget, given, len(given), answer_at, most, size_at)
-        found: bytes = answer[:size.value]  # type: ignore[assignment]
-        self._rooms.append(room)
-        return Answer(status, found) if status else found.decode("utf-8", "replace").removesuffix("\n")
+        self.is_open = bool(self.program)
+        self.rooms: list[Room] = []
 
     def __del__(self) -> None:
-        self._library._close(self._program)
+        self._library._close(self.program)
 
 
 class OpenHandle(TextHandle):
@@ -173,26 +152,41 @@ class OpenHandle(TextHandle):
 
     def __init__(self, library: Library, text: bytes):
         super().__init__(library, text)
-        self._library = library
+        self._library, self._call_into = library, library._call_into
+        self._kept: Kept | None = None
 
-    @cached_property
-    def _kept(self) -> Kept:
-        return Kept(self._library, self._text)
+    def _open(self) -> Kept:
+        kept = self._kept = self._kept or Kept(self._library, self._text)
+        return kept
 
     def ask(self, words: Sequence[str]) -> Answer:
         """The answer of a command on the text."""
-        return self._kept.answer if list(words) == ["types"] else super().ask(words)
+        return self._open().answer if list(words) == ["types"] else super().ask(words)
 
-    def call(self, budget: int, words: Sequence[str]) -> str | Answer:
-        """The value that one call prints, or the answer that refuses it."""
-        kept = self._kept   # a thread that calls keeps it open
-        if kept.at and 0 <= budget <= MOST_BUDGET:
-            return kept.call(budget, words)
-        return super().call(budget, words)
+    def call(self, budget: int, line: bytes) -> str | Answer:
+        """The value that one call prints, or the answer that refuses it.
+
+        Other threads run meanwhile, but for those that call the same program.
+        """
+        kept = self._kept or self._open()   # a thread that calls keeps it open
+        if not kept.is_open or not 0 <= budget <= MOST_BUDGET:
+            return super().call(budget, line)
+        try:
+            room = kept.rooms.pop()
+        except IndexError:
+            room = room_for(FIRST_ROOM)
+        answer, size, answer_at, most, size_at = room
+        status = self._call_into(kept.program, budget, line, len(line), answer_at, most, size_at)
+        if size.value > FIRST_ROOM:
+            answer, size, answer_at, most, size_at = room_for(size.value)
+            status = self._call_into(kept.program, budget, line, len(line), answer_at, most, size_at)
+        found: bytes = answer[:size.value]  # type: ignore[assignment]
+        kept.rooms.append(room)
+        return Answer(status, found) if status else found.decode("utf-8", "replace").removesuffix("\n")
 
     def close(self) -> None:
         """Lets go of the program, once no thread calls it."""
-        self.__dict__.pop("_kept", None)
+        self._kept = None
 
 
 @cache

@@ -2,15 +2,15 @@
 import os
 import re
 from collections.abc import Iterable, Sequence
-from dataclasses import dataclass
+from dataclasses import dataclass, field
 from decimal import Decimal
 from fractions import Fraction
-from functools import cached_property
-from typing import Any
+from functools import lru_cache
+from typing import TYPE_CHECKING, Any
 
 from umc import reports
 from umc.embed import quantity, refused
-from umc.embed.engines import Engine, Process
+from umc.embed.engines import Engine, Process, line_words, words_line
 from umc.embed.library import Library, find
 from umc.embed.quantity import Quantity, value_of
 from umc.embed.refused import Refused
@@ -65,7 +65,7 @@ class Program:
         self._schemes = schemes(answer.output.decode())
         self._functions = {name: Function(self, scheme) for name, scheme in self._schemes.items()}
         self._ratio: "Program | None" = None
-        # Python finds these at once; the others are items alone.
+        # Python finds these as attributes; the others are items alone.
         self.__dict__.update({name: it for name, it in self._functions.items() if not hasattr(Program, name)
                               and name not in self.__dict__})
 
@@ -95,11 +95,9 @@ class Program:
     def __getitem__(self, name: str) -> "Function":
         return self._functions[name]
 
-    def __getattr__(self, name: str) -> "Function":
-        found: Function | None = self.__dict__.get("_functions", {}).get(name)
-        if found is None:
-            raise AttributeError(f"the program has no function {name!r}")
-        return found
+    if TYPE_CHECKING:
+        def __getattr__(self, name: str) -> "Function":
+            """Functions are attributes."""
 
     def __dir__(self) -> list[str]:
         return sorted({*object.__dir__(self), *self._schemes})
@@ -125,16 +123,14 @@ class Program:
         return [self._refused(name, number, columns, line) if line.startswith(REFUSAL)
                 else value_of(line, convert) for number, line in enumerate(lines, 1)]
 
-    def answer(self, name: str, arguments: Sequence[str]) -> str:
-        """The printed value of a call of a function, whose arguments are texts."""
-        return self.said([name, *arguments])
-
-    def said(self, words: list[str]) -> str:
-        """The printed value of a call: the words are the function's name and the texts of its arguments."""
-        answer = self._handle.call(self.budget, words)
+    def said(self, line: bytes) -> str:
+        """The printed value of a call: the line has the function's name and the texts of its arguments, with a zero
+        byte between each two.
+        """
+        answer = self._handle.call(self.budget, line)
         if isinstance(answer, str):
             return answer
-        raise self._refusal(words, answer)
+        raise self._refusal(line_words(line), answer)
 
     def _refusal(self, words: list[str], answer: Answer) -> Refused:
         name, *arguments = words
@@ -183,14 +179,13 @@ class Function:
 
     program: Program
     scheme: Scheme
+    name: str = field(init=False, repr=False, compare=False)
+
+    def __post_init__(self) -> None:
+        object.__setattr__(self, "name", self.scheme.function)
 
     def __repr__(self) -> str:
         return f"<{self.scheme}>"
-
-    @cached_property
-    def name(self) -> str:
-        """The function's name."""
-        return self.scheme.function
 
     def __call__(self, *arguments: Any, unit: Units = None, step: Step | None = None) -> Any:
         """The value of a call.
@@ -205,11 +200,11 @@ class Function:
         Raises `umc.Refused` if the program refuses the call, and `umc.ValueRefused` for a value that is no argument.
         """
         program = self.program
-        return value_of(program.said(_words(self.name, arguments, unit, step)), program.convert)
+        return value_of(program.said(_line(self.name, arguments, unit, step)), program.convert)
 
     def printed(self, *arguments: Any, unit: Units = None, step: Step | None = None) -> str:
         """The value of a call as the program prints it, as 381r125<m>."""
-        return self.program.said(_words(self.name, arguments, unit, step))
+        return self.program.said(_line(self.name, arguments, unit, step))
 
     def each(self, *columns: Iterable[Any], unit: Units = None, step: Step | None = None,
              keep_going: bool = False) -> list[Any]:
@@ -232,18 +227,31 @@ class Function:
 PLAIN = frozenset([int, str, Fraction, Decimal, Quantity, tuple, list])   # these aren't columns of a data frame
 
 
-def _words(name: str, arguments: Sequence[Any], unit: Units, step: Step | None) -> list[str]:
-    """The name of a function and the texts of its arguments."""
-    own_writers, words = _writers(arguments, unit, step), [name]
+def _line(name: str, arguments: tuple[Any, ...], unit: Units, step: Step | None) -> bytes:
+    """The name of a function and the texts of its arguments, with a zero byte between each two."""
+    for argument in arguments:
+        if type(argument) is not int or step is not None:
+            return words_line([name, *_texts(arguments, unit, step)])
+    units = unit if unit is None or isinstance(unit, str) else tuple(unit)
+    return _line_of_ints(name, units, len(arguments)) % arguments   # the most common in one go
+
+
+@lru_cache(maxsize=1000)
+def _line_of_ints(name: str, unit: Units, count: int) -> bytes:
+    """The line of a call with %d in the place of each argument."""
+    line = words_line([name, *_texts([0] * count, unit, None)]).replace(b"%", b"%%")
+    return line.replace(b"\x000", b"\0%d")
+
+
+def _texts(arguments: Sequence[Any], unit: Units, step: Step | None) -> list[str]:
+    """The texts of arguments."""
+    texts: list[str] = []
     try:
-        for own, argument in zip(own_writers, arguments):
-            if type(argument) is int:   # the most common first
-                words.append(f"{argument}{own.ending}")
-            else:
-                words.append(_of_column(own, argument).text(argument))
+        for own, argument in zip(_writers(arguments, unit, step), arguments):
+            texts.append(_of_column(own, argument).text(argument))
     except ValueRefused as error:
-        raise ValueRefused(f"argument {len(words)}: {error.message}") from error
-    return words
+        raise ValueRefused(f"argument {len(texts) + 1}: {error.message}") from error
+    return texts
 
 
 def _writers(arguments: Sequence[Any], unit: Units, step: Step | None) -> Iterable[Writer]:

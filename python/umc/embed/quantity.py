@@ -11,6 +11,7 @@ from umc.errors import UmError
 
 OPEN = "_"
 HAS_TWO_PARTS = getattr(Fraction, "__slots__", None) == ("_numerator", "_denominator")  # so it is up to Python 3.13
+new = object.__new__
 Conversion = Callable[["Quantity", str], "Quantity"]
 
 
@@ -106,31 +107,22 @@ def value_of(line: str, convert: Conversion) -> Any:
     number, _, unit = line.partition("<")
     above, sign, below = number.partition("r")
     try:    # most values are a number, which this finds soonest
-        magnitude = in_lowest_terms(int(above), int(below) if sign else 1)
+        numerator, denominator = int(above), int(below) if sign else 1
     except ValueError:
         return plain(printed.value(line, reader(convert)))
-    return quantity_of(magnitude, unit[:-1], convert)
-
-
-def in_lowest_terms(above: int, below: int) -> Fraction:
-    """The fraction of two numbers without a common divisor, which isn't looked for again."""
-    if not HAS_TWO_PARTS:
-        return Fraction(above, below)
-    made = object.__new__(Fraction)
-    made._numerator, made._denominator = above, below   # type: ignore[attr-defined]
+    if HAS_TWO_PARTS:   # they have no common divisor, which isn't looked for again
+        magnitude = new(Fraction)
+        magnitude._numerator, magnitude._denominator = numerator, denominator   # type: ignore[attr-defined]
+    else:
+        magnitude = Fraction(numerator, denominator)
+    made = new(Quantity)    # it is what the constructor makes, in a third of the constructor's time
+    parts = made.__dict__   # a frozen class has its other fields as they are declared
+    parts["magnitude"] = magnitude
+    parts["unit"] = unit[:-1]
+    parts["_convert"] = convert
     return made
 
 
 def reader(convert: Conversion) -> Callable[[re.Match[str]], Any]:
     """Makes the numbers of printed lists and records."""
     return lambda found: Quantity(printed.fraction(found["number"]), found["unit"] or "", False, None, convert)
-
-
-def quantity_of(magnitude: Fraction, unit: str, convert: Conversion) -> Quantity:
-    """The quantity of a program. It is what the constructor makes, in a third of the constructor's time."""
-    made = object.__new__(Quantity)
-    parts = made.__dict__   # a frozen class has its other fields as they are declared
-    parts["magnitude"] = magnitude
-    parts["unit"] = unit
-    parts["_convert"] = convert
-    return made

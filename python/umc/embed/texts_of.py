@@ -74,7 +74,7 @@ class Writer:
         if kind is tuple or kind is list:
             return self._with(value[1]).text(value[0]) if _is_number_with_unit(value) else self._list(value)
         if isinstance(value, str):
-            return self._string(value)
+            return value if self.unit is None else self._string(value)
         if isinstance(value, Quantity):
             return value.text
         if isinstance(value, bool) or type(value).__name__ in ("bool_", "bool"):
@@ -120,7 +120,7 @@ class Writer:
 
     def _string(self, text: str) -> str:
         """A text of the language as it stands; a number without a unit gets the unit that is named."""
-        if self.unit is None or text.rstrip().endswith(">") or text.strip() in cells.TRUTHS:
+        if text.rstrip().endswith(">") or text.strip() in cells.TRUTHS:
             return text
         try:
             return cells.number_text(text.strip()) + self.ending

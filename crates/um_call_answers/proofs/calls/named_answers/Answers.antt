@@ -10,13 +10,13 @@ use Rattle.um_call_answers.specs.Calling.{IsCallableIn}
 use Rattle.um_call_answers.specs.CallsAnswer.{AreLineAnswers}
 use Rattle.um_call_answers.proofs.calls.named_answers.Goals as goal
 
-pub callable_of-requires-clause-closed : goal.callable_of-requires-clause-closed
-callable_of-requires-clause-closed c =
+pub callable_of-callable-requires-clause-closed : goal.callable_of-callable-requires-clause-closed
+callable_of-callable-requires-clause-closed c =
     subst (λ (p : Program). AreClosedUnits (length (program_tree p).bases) c.abbreviations-abbreviations.result.now) (sym c.shaped-shaped.ensures.shaped) c.abbreviations-abbreviations.ensures.closed
 
 pub line_answers-text-requires-clause-callable : goal.line_answers-text-requires-clause-callable
 line_answers-text-requires-clause-callable c =
-    let callable = c.in_ok-callable.callable in let known = c.in_ok-callable.ensures in
+    let callable = c.callable_of-callable.result in let known = c.callable_of-callable.ensures in
     let there : IsCallableIn c.args.checked.now callable = record {
       callable = known.callable;
       shaped = known.program ∙ c.shaped-shaped.ensures.shaped;

@@ -10,5 +10,5 @@ use Rattle.um_value.proofs.read.named_input.Goals as goal
 pub returns : goal.returns
 returns c =
     let known = c.args.known.now in
-    let same : short_unit known.measures ≡ measure_unit (known_in known) = same_measures (short_unit known.measures) (measure_unit (known_in known)) known.named in
+    let same : short_unit known.measures.now ≡ measure_unit (known_in known) = same_measures (short_unit known.measures.now) (measure_unit (known_in known)) known.named in
     subst (λ (m : List ℕ → Option PowerMap). IsNamed m (value_syntax c.args.raw.now) c.checked_input.result) same c.checked_input.ensures

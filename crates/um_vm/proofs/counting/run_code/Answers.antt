@@ -4,7 +4,8 @@ use Rattle.std.proofs.lemmas.Result.{IfOk-weaker}
 use Rattle.um_tree.specs.ValueTree.{value_tree, outcome_tree}
 use Rattle.um_machine.specs.Machine.{Runs}
 use Rattle.um_vm.specs.Phases.{phase_holds}
-use Rattle.um_vm.proofs.Counted.{reaches_start, reaches_more, counted_end, counted_ends, never_stuck, never_failed, run_falls}
+use Rattle.um_vm.proofs.Calls.{counted_ends}
+use Rattle.um_vm.proofs.Counted.{reaches_start, reaches_more, counted_end, never_stuck, never_failed, run_falls}
 use Rattle.um_vm.proofs.counting.run_code.Goals as goal
 
 pub loop-machine-init : goal.loop-machine-init

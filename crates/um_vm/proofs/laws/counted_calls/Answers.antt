@@ -1,4 +1,4 @@
-use Rattle.um_vm.proofs.Counted.{counted_once}
+use Rattle.um_vm.proofs.Calls.{counted_once}
 use Rattle.um_vm.proofs.laws.counted_calls.Goals as goal
 
 pub returns : goal.returns

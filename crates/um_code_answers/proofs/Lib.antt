@@ -1,2 +1,0 @@
-mod EndsOnce
-pub mod CodeAnswers
