@@ -5,11 +5,11 @@ use: bench/images.py straight PUSHES > image       then: umc exec 1 f < image
      bench/images.py crossing PUSHES JUMPS > image
      bench/images.py pairs STACKS > image          then: umc exec 1 f '[1]' < image
 
-`straight` pushes so many truth values and returns. `crossing` pushes PUSHES values and then jumps JUMPS times, each time
-to an address of its own far behind, where two stacks meet that have all values in common. `pairs` makes so many stacks
-apart from one another, each of as many lists. Some of these are empty lists and some are lists of numbers. Then each two
-of the stacks meet at an address of their own. There they are joined place by place, so the work grows with the third
-power of STACKS, and the bytes with the second.
+`straight` pushes so many truth values and returns. `crossing` pushes PUSHES values and then jumps JUMPS times, each
+time to an address of its own far ahead, where two stacks meet that have all values in common. `pairs` makes so many
+stacks apart from one another, each of as many lists. Some of these are empty lists and some are lists of numbers. Then
+each two of the stacks meet at an address of their own. There they are joined place by place, so the work grows with the
+third power of STACKS, and the bytes with the second.
 """
 import argparse
 import inspect

@@ -3,7 +3,7 @@
  *
  * Blocks have sizes of a fixed row, four to each doubling; a freed block waits in the list of its
  * size, and is given again to the next call that wants this size. New memory is taken from the end of
- * the module's memory, which grows by whole pages; where it can't grow, a call is told so. A block is
+ * the module's memory, which grows by whole pages; if it can't grow, a call is told so. A block is
  * aligned to 16 bytes, as is its size. The module runs one call at a time, on one thread.
  */
 #include "heap.h"

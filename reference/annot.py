@@ -1,4 +1,4 @@
-"""`annot`: the answer of `types`, and behind each function the type of each node of its body."""
+"""`annot`: the answer of `types`, and after each function the type of each node of its body."""
 from __future__ import annotations
 
 from equations import Formed, equations_of
@@ -13,7 +13,7 @@ BINARY = ("+", "-", "*", "/", "<", "<=", "=", "<>", ">", ">=", "&&", "||", "::")
 
 
 def in_order(node: Expr) -> list[Expr]:
-    """The nodes in the order of their places: a sign stands between its parts, a field behind its part."""
+    """The nodes in the order of their places: a sign stands between its parts, a field after its part."""
     parts = [in_order(part) for part in node.parts]
     if node.kind in BINARY:
         return parts[0] + [node] + parts[1]

@@ -10,7 +10,7 @@ Run = Callable[[list[str], Source], str]
 
 
 def cut(data: bytes) -> tuple[bytes, bytes]:
-    """What stands before the first line that is `---` alone, and what stands behind it."""
+    """What stands before the first line that is `---` alone, and what stands after it."""
     at = 0
     while at <= len(data):
         end = data.find(b"\n", at)

@@ -1,7 +1,7 @@
 """An Earley recogniser: the texts that tokens begin, their tree, and the least height of what they begin.
 
 J. Earley, An efficient context-free parsing algorithm, 1970. Set k holds each rule that can stand there after k tokens,
-with how much of it was read and where that began. So the tokens begin a text where their set isn't empty.
+with how much of it was read and where that began. So the tokens begin a text if their set isn't empty.
 """
 from __future__ import annotations
 
@@ -30,7 +30,7 @@ class Item:
         self.before, self.part, self.height, self.at = before, part, height, at
 
     def next(self) -> str | None:
-        """The symbol behind the dot; None behind the last."""
+        """The symbol after the dot; None after the last."""
         return self.rule.following[self.dot]
 
     def parts(self) -> list:
@@ -44,13 +44,13 @@ class Item:
 
     def tree(self):
         """What the rule makes of its parts. The chain of a long list is followed in a loop."""
-        item, behind = self, []
+        item, after = self, []
         while item.rule.action == "more":
             first, *others = item.parts()
-            behind += [made(part) for part in reversed(others)]
+            after += [made(part) for part in reversed(others)]
             item = first
         whole = item.rule.made([made(part) for part in item.parts()], item.at)
-        return whole + behind[::-1] if behind else whole
+        return whole + after[::-1] if after else whole
 
 
 def made(part):
@@ -126,7 +126,7 @@ class Chart:
             else:
                 waiting[symbol].append(item)
                 if symbol in empty:
-                    add(self.behind(item, empty[symbol]))
+                    add(self.after(item, empty[symbol]))
 
     def complete(self, item: Item, here: int, empty: dict[str, Item], add) -> None:
         """Puts a rule that is read wholly into those that wait for it."""
@@ -135,16 +135,16 @@ class Chart:
         if item.origin == 0 and item.rule.left == self.start:
             self.whole = item
         for waiter in list(self.waiting[item.origin].get(item.rule.left, ())):
-            add(self.behind(waiter, item))
+            add(self.after(waiter, item))
 
-    def behind(self, waiter: Item, done: Item) -> Item:
-        """The waiting item behind what is complete."""
+    def after(self, waiter: Item, done: Item) -> Item:
+        """The waiting item after what is complete."""
         at = done.at if waiter.dot == waiter.rule.marked or waiter.at < 0 else waiter.at
         height = max(waiter.height, done.rule.height(done.height))
         return Item(waiter.rule, waiter.dot + 1, waiter.origin, waiter, done, height, at)
 
     def feed(self, token: Token) -> bool:
-        """Reads a token; false where no text begins with it behind the others."""
+        """Reads a token; false if no text begins with it after the others."""
         items = []
         for symbol in terminals(token):
             for waiter in self.waiting[-1].get(symbol, ()):

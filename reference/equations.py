@@ -135,7 +135,7 @@ class Former:
     # ---- nodes
 
     def type(self, node: Expr, scope: list[tuple]) -> tuple:
-        """The type of an expression, where the variables have these; its rows are formed behind those of its parts."""
+        """The type of an expression, where the variables have these; its rows are formed after those of its parts."""
         special = getattr(self, "type_" + {"::": "cons"}.get(node.kind, node.kind), None)
         if special:
             kind = special(node, scope)

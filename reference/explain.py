@@ -1,4 +1,4 @@
-"""`explain`: the answer of `types`, and behind a refusal the line of the text and why it is refused."""
+"""`explain`: the answer of `types`, and after a refusal the line of the text and why it is refused."""
 from __future__ import annotations
 
 from earley import SyntaxFault, terminals
@@ -68,7 +68,7 @@ def expected(source: Source, fault: SyntaxFault) -> list[str]:
 
 
 def open_let(source: Source, number: int) -> Token | None:
-    """The last `let` before a token with as many `in` as `let` behind it, up to the token."""
+    """The last `let` before a token with as many `in` as `let` after it, up to the token."""
     depth = 0
     for token in reversed(source.tokens[:number]):
         if token.kind == "word" and token.text == "let" and depth == 0:
@@ -138,7 +138,7 @@ def shape_details(source: Source, fault: ShapeFault) -> list[str]:
 
 
 def solvable(units: list[Unit], rows: list[Row]) -> list[Unit] | None:
-    """The units of the slots behind these rows, over powers without bound; none where there is no solution."""
+    """The units of the slots after these rows, over powers without bound; none if there is no solution."""
     try:
         for row in rows:
             units = eliminate(units, row.unit, False)
@@ -242,7 +242,7 @@ def unit_details(source: Source, refusal: Refusal) -> list[str]:
 
 
 def details(source: Source, report: Report) -> list[str]:
-    """What is told behind the report line and the excerpt."""
+    """What is told after the report line and the excerpt."""
     cause = report.cause
     if isinstance(cause, LexFault):
         return ["no letter follows a number" if cause.letter else LEXICAL[cause.kind]]

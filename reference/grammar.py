@@ -1,14 +1,14 @@
 """The grammar of docs/LANGUAGE.md as a table of rules, and the nodes of raw trees that they make.
 
-A line is one rule: what it derives, its symbols, and behind `=>` what becomes of its parts. A quoted symbol is a word
+A line is one rule: what it derives, its symbols, and after `=>` what becomes of its parts. A quoted symbol is a word
 or a sign. `Name`, `Var` and `Number` are tokens of that kind, `Whole` is a number of digits alone that can be a power,
-`One` the number `1`, `"<#"` a `<` directly behind a number and `"<"` any other, `"=#"` a `=` directly behind the token
-before it. The parts are what isn't quoted. The place of a node is that of the symbol behind `@`, otherwise of its first
+`One` the number `1`, `"<#"` a `<` directly after a number and `"<"` any other, `"=#"` a `=` directly after the token
+before it. The parts are what isn't quoted. The place of a node is that of the symbol after `@`, otherwise of its first
 token.
 
   pass       the only part itself, or nothing
   list       a list of the parts
-  more       the list that is the first part, and the others behind it
+  more       the list that is the first part, and the others after it
   KIND       a node of this kind, one higher than its highest part
   KIND~      a node as high as its highest part
   KIND!N     a node of height N; its parts are heights by themselves
@@ -179,8 +179,8 @@ class Rule:
 
 def rule_of(line: str) -> Rule:
     """The rule that a line of the table writes."""
-    left, _, behind = line.partition(" : ")
-    symbols, _, action = behind.rpartition("=> ")
+    left, _, after = line.partition(" : ")
+    symbols, _, action = after.rpartition("=> ")
     names = symbols.split()
     marked = [number for number, name in enumerate(names) if name.startswith("@")]
     return Rule(left.strip(), [name.lstrip("@") for name in names], action, marked[0] if marked else 0)

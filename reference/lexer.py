@@ -67,7 +67,7 @@ def in_range(value: Fraction) -> bool:
 
 
 def number_end(text: str, at: int) -> int:
-    """The end of the number that begins here: digits, and behind `.` or `r` further digits."""
+    """The end of the number that begins here: digits, and after `.` or `r` further digits."""
     end = run_end(text, at, is_digit)
     if text[end:end + 1] in (".", "r") and is_digit(text[end + 1:end + 2]):
         end = run_end(text, end + 1, is_digit)
@@ -86,20 +86,20 @@ def number_value(text: str) -> Fraction | None:
 
 
 def power_value(text: str) -> Fraction | None:
-    """The value of a number behind `^`: digits alone, at most 2147483647."""
+    """The value of a number after `^`: digits alone, at most 2147483647."""
     if not text.isdigit() or len(text.lstrip("0")) > 10 or int(text) > HIGHEST_POWER:
         return None
     return Fraction(int(text))
 
 
 def is_power_place(tokens: list[Token]) -> bool:
-    """A number behind these tokens is a power: they end with `^`, or with `^` and `-`."""
+    """A number after these tokens is a power: they end with `^`, or with `^` and `-`."""
     last = [token.text if token.kind == "sign" else "" for token in tokens[-2:]]
     return last[-1:] == ["^"] or last == ["^", "-"]
 
 
 def skip_gap(text: str, at: int) -> int:
-    """The place behind white space and comments."""
+    """The place after white space and comments."""
     while at < len(text):
         if text.startswith("//", at):
             end = text.find("\n", at)

@@ -72,7 +72,7 @@ class Expressions:
         return Expr("let", node.at, [value, self.read(node.parts[2], scope + [bound(node.parts[0])])])
 
     def read_match(self, node: Node, scope: list) -> Expr:
-        """The two arms of a list. The names of the second arm are looked at behind the first arm."""
+        """The two arms of a list. The names of the second arm are looked at after the first arm."""
         value, _, empty, head, tail, full = node.parts
         parts = [self.read(value, scope), self.read(empty, scope)]
         if bound(head) is not None and bound(head) == bound(tail):

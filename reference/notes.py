@@ -169,7 +169,7 @@ class Units:
 
 
 class Types:
-    """Reads type texts. `hole` says what is told of a hole where none may stand; nothing where one may."""
+    """Reads type texts. `hole` says what is told of a hole where none may stand; nothing if one may."""
 
     def __init__(self, program: Program, names: list[str], hole: str | None, ranges: bool = True) -> None:
         self.program, self.units, self.hole = program, Units(program, names, ranges), hole

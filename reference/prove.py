@@ -111,7 +111,7 @@ class Certificates:
         self.program = program
 
     def solved(self, equations: Equations, parameters: int, count: int) -> tuple[Maker, Refuted | None]:
-        """What is kept behind the first rows, or what refutes one."""
+        """What is kept after the first rows, or what refutes one."""
         rows = [row.unit for row in equations.rows()][:count]
         maker = Maker(rows, len(self.program.bases), parameters, equations.slots)
         for number in range(len(rows)):

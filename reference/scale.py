@@ -21,7 +21,7 @@ class Misfit(Exception):
 
 
 def stated_number(text: str) -> Fraction | None:
-    """The number that a text is, where it is above 0."""
+    """The number that a text is, if it is above 0."""
     if not text[:1].isascii() or not text[:1].isdigit() or number_end(text, 0) != len(text):
         return None
     value = number_value(text)
@@ -29,7 +29,7 @@ def stated_number(text: str) -> Fraction | None:
 
 
 def sizes_of(word: str) -> dict[str, Fraction]:
-    """The sizes that a word states: NAME=NUMBER, and more of these behind commas."""
+    """The sizes that a word states: NAME=NUMBER, and more of these after commas."""
     sizes: dict[str, Fraction] = {}
     for part in word.split(","):
         name, _, number = part.partition("=")
@@ -94,7 +94,7 @@ def literals(node: Expr) -> dict[int, Fraction]:
 
 
 def rescaled_text(source: Source, program: Program) -> str:
-    """The text with the numbers of the rescaled program, where a unit stands directly behind them."""
+    """The text with the numbers of the rescaled program, if a unit stands directly after them."""
     numbers: dict[int, Fraction] = {}
     for function in program.functions:
         numbers.update(literals(function.body))

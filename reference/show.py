@@ -28,7 +28,7 @@ def naming(bases: list[str]):
 
 
 def unit_text(unit: Unit, bases: list[str], named=None) -> str:
-    """The atoms with their powers, the negative ones behind one `/`."""
+    """The atoms with their powers, the negative ones after one `/`."""
     named = named or naming(bases)
     parts = sorted((named(key) + (power,) for key, power in unit.items()), key=lambda part: part[0])
     texts = [(text + (f"^{abs(power)}" if abs(power) != 1 else ""), power) for _, text, power in parts]
@@ -59,7 +59,7 @@ def field_types(program: Program, kind: tuple) -> list[tuple[str, tuple]]:
 
 
 def suffix_text(unit: Unit, program: Program) -> str:
-    """What stands behind a number at a unit."""
+    """What stands after a number at a unit."""
     if not unit:
         return ""
     return f"<{unit_text(unit, program.bases)}>" if is_closed(unit) else "<_>"

@@ -68,7 +68,7 @@ def look_up(program: Program, chosen: list[Chosen]) -> None:
 
 
 def decimal_text(value: Fraction, digits: int) -> str:
-    """The number rounded to so many decimals, of two nearest the even one; `~` in front where it isn't exact."""
+    """The number rounded to so many decimals, of two nearest the even one; `~` in front if it isn't exact."""
     scaled = value * 10**digits
     rounded = round(scaled)
     text = str(abs(rounded)).rjust(digits + 1, "0")

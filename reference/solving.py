@@ -43,7 +43,7 @@ def put_at(units: list[Unit], turned: tuple, by: Unit, bounded: bool) -> list[Un
 
 
 def eliminate(units: list[Unit], row: Unit, bounded: bool = True, turned=None) -> list[Unit]:
-    """The units of the slots behind a row: those that solve it too, and are most general. `turned` hears each turn."""
+    """The units of the slots after a row: those that solve it too, and are most general. `turned` hears each turn."""
     row = put_unit(row, by_list(units))
     if bounded and not fits(row):
         raise PowerRange
@@ -73,7 +73,7 @@ def own_variables(slots: int) -> list[Unit]:
 
 
 def rigid_units(bases: int, parameters: int, slots: int) -> list[Unit]:
-    """Each slot as itself, but each unit parameter as a base unit behind the declared ones."""
+    """Each slot as itself, but each unit parameter as a base unit after the declared ones."""
     return [atom(BASE, bases + number) for number in range(parameters)] + own_variables(slots)[parameters:]
 
 
@@ -90,7 +90,7 @@ class Refusal(Exception):
 
 
 def solve(rows: list[Row], units: list[Unit]) -> list[Unit]:
-    """The units of the slots behind all rows, or the Refusal of the first that has no solution or passes the range."""
+    """The units of the slots after all rows, or the Refusal of the first that has no solution or passes the range."""
     for number, row in enumerate(rows):
         try:
             units = eliminate(units, row.unit)
@@ -119,7 +119,7 @@ def solution_of(program: Program, function: Function, equations: Equations) -> l
 
 
 def generalised(program: Program, function: Function, slots: int, types: list[tuple]) -> list[tuple]:
-    """The types with a variable behind the slots in the place of each unit parameter."""
+    """The types with a variable after the slots in the place of each unit parameter."""
     bases = len(program.bases)
     place = lambda key: atom(VAR, slots + key[1] - bases) if key[0] == BASE and key[1] >= bases else None
     return [put(kind, place) for kind in types]

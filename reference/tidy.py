@@ -22,7 +22,7 @@ def spaces(tree: Node) -> list[bool]:
 
 
 def openers(source: Source) -> set[int]:
-    """The places of tokens that begin a declaration, and of the `type` behind its attribute."""
+    """The places of tokens that begin a declaration, and of the `type` after its attribute."""
     numbers = {token.start: number for number, token in enumerate(source.tokens)}
     places = set()
     for node in source.tree.parts[0]:
@@ -50,8 +50,8 @@ class Tidy:
 
     def line(self, start: int, end: int, tokens: list[Token]) -> str:
         """A line: its indentation, its tokens, its comment."""
-        behind = tokens[-1].end if tokens else start
-        comment = self.text.find("//", behind, end)
+        after = tokens[-1].end if tokens else start
+        comment = self.text.find("//", after, end)
         first = tokens[0].start if tokens else comment if comment >= 0 else end
         text = "".join((" " if number and self.spaced[token.start] else "") + self.text[token.start:token.end]
                        for number, token in enumerate(tokens))

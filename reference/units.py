@@ -2,7 +2,7 @@
 
 A unit is a map from atoms to powers other than 0. An atom is `(BASE, k)` or `(VAR, k)`. A type is `("bool",)`,
 `("num", unit)`, `("list", type)` or `("rec", number, units)`. A note is a type whose units may be HOLE. A shape is a
-note whose units were left out. Powers have no bound here; where one passes the range, that is asked for.
+note whose units were left out. Powers have no bound here; whoever needs one in range asks for it.
 """
 from __future__ import annotations
 

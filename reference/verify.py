@@ -97,7 +97,7 @@ def join(shape: tuple, other: tuple) -> tuple | None:
 
 
 def join_all(states: list[tuple] | None, others: list[tuple]) -> list[tuple] | None:
-    """The join of two states, place by place; none where their lengths or some shapes don't go together."""
+    """The join of two states, place by place; none if their lengths or some shapes don't go together."""
     if states is None or len(states) != len(others):
         return None
     joined = [join(shape, other) for shape, other in zip(states, others)]
@@ -105,7 +105,7 @@ def join_all(states: list[tuple] | None, others: list[tuple]) -> list[tuple] | N
 
 
 class Rules:
-    """The rule of one instruction where a state arrives: the states that it passes on, or None where it fails."""
+    """The rule of one instruction where a state arrives: the states that it passes on, or None if it fails."""
 
     def __init__(self, verifier: Verifier, head: Head, at: int, state: list[tuple]) -> None:
         self.verifier, self.image, self.head, self.at, self.state = verifier, verifier.image, head, at, state

@@ -1,8 +1,8 @@
 /*
  * A heap whose calls fail where it is told: tools/fail_alloc puts it before the C library's.
  *
- * FAIL_AT=N fails the Nth call that asks for memory, FAIL_FROM=N that one and all behind it; the calls are counted
- * from 1 on. At the end the number of the calls is written to file descriptor COUNT_TO, where that is given.
+ * FAIL_AT=N fails the Nth call that asks for memory, FAIL_FROM=N that one and all after it; the calls are counted
+ * from 1 on. At the end the number of the calls is written to file descriptor COUNT_TO, if that is given.
  */
 typedef unsigned long size;
 

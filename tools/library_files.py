@@ -42,7 +42,7 @@ class Signature:
 
 
 def needs(path: Path) -> list[str]:
-    """The names behind `// with:` in the first line of a file; none where it has no such line."""
+    """The names after `// with:` in the first line of a file; none if it has no such line."""
     with path.open(encoding="utf-8-sig") as text:
         first = text.readline()
     return first[len(FIRST):].split() if first.startswith(FIRST) else []

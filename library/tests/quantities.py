@@ -138,7 +138,7 @@ def read_value(text: str) -> tuple[Any, str]:
 
 
 def read_items(text: str) -> tuple[list[Any], str]:
-    """What stands behind the `[` of a list."""
+    """What stands after the `[` of a list."""
     items: list[Any] = []
     while not text.startswith("]"):
         item, text = read_value(text)
@@ -151,7 +151,7 @@ def read_items(text: str) -> tuple[list[Any], str]:
 
 
 def read_fields(text: str) -> tuple[dict[str, Any], str]:
-    """What stands behind the `{` of a record."""
+    """What stands after the `{` of a record."""
     fields: dict[str, Any] = {}
     while not text.startswith("}"):
         name, _, text = text.partition("=")

@@ -25,7 +25,7 @@ const MEASURE = ["entity.name.type.measure", "support.constant.measure"];
 const DECLARED = /(?<![\p{L}\p{N}\p{M}\p{Pc}])let\s+(?:rec\s+)?$/u;
 
 // The part at an offset of a line, as {start, end, text}: what stands there, and its type. A number has its unit with
-// it, and a field the sign before it. Null where nothing with a type stands.
+// it, and a field the sign before it. Null if nothing with a type stands there.
 export function partAt(annotation, line, number, offset, tokens) {
   const token = tokens.find(([start, end]) => start <= offset && offset < end);
   if (!token || offset >= line.length) return null;
@@ -54,7 +54,7 @@ function numberWithUnit(annotation, line, number, offset) {
   return null;
 }
 
-// A measure or an abbreviation, where no number stands before it: what it stands for.
+// A measure or an abbreviation, if no number stands before it: what it stands for.
 function measure(annotation, line, [start, end, scope]) {
   const name = line.slice(start, end);
   const unit = annotation.units.get(name);

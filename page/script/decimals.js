@@ -16,7 +16,7 @@ export class Decimals {
     for (const field of [parts.digits, parts.units]) field.addEventListener("input", () => this.show());
   }
 
-  // Takes the call whose value is shown, and how long it took; null where there is none.
+  // Takes the call whose value is shown, and how long it took; null if there is none.
   set(call, time) {
     this.call = call;
     this.parts.decimals.hidden = call === null;

@@ -18,7 +18,7 @@ export class Hover {
     for (const name of ["keyup", "pointerup"]) text.addEventListener(name, () => this.cursor());
   }
 
-  // Takes what `annot` says of the text; null where nothing is known.
+  // Takes what `annot` says of the text; null if nothing is known.
   set(annotation) {
     this.annotation = annotation;
     this.hide();

@@ -27,7 +27,7 @@ def expect(found: object, wanted: object, what: str) -> None:
 
 
 def chromium() -> str | None:
-    """The browser's path; it is installed where it isn't there."""
+    """The browser's path; it is installed if it isn't there."""
     if not shutil.which("chromium"):
         for words in (["update"], ["install", "-y", "--no-install-recommends", "chromium"]):
             subprocess.run(["apt-get", "-q", *words], check=True, stdout=subprocess.DEVNULL)

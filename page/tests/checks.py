@@ -184,7 +184,7 @@ def link(page: Page, _: str) -> str | None:
     for name in ("text", "name", "words"):
         ask = f"document.getElementById('{name}').value"
         expect(other.value(ask), page.value(ask), f"what the link holds of {name}")
-    expect(other.answer(), page.answer(), "the answer behind the link")
+    expect(other.answer(), page.answer(), "the answer of the link")
     other.end()
 
 

@@ -143,7 +143,7 @@ def program(tmp_path: Path) -> Callable[[str | bytes, str], Path]:
 
 @pytest.fixture
 def script(tmp_path: Path) -> Callable[[str], Path]:
-    """Writes a program of a shell that stands for umc, where a test needs one that misbehaves."""
+    """Writes a program of a shell that stands for umc, if a test needs one that misbehaves."""
     def write(text: str) -> Path:
         path = tmp_path / "script"
         path.write_text(f"#!/bin/sh\n{text}\n")

@@ -47,7 +47,7 @@ class Results:
         self._waiting.append((row.cells if row and self.data_header else [], cells))
 
     def _check(self, cells: Cells) -> None:
-        """Sees to it that the units are those of the rows above, where an open one becomes any other."""
+        """Sees to it that the units are those of the rows above; an open one becomes any other."""
         own_units = [unit for _, unit, _ in cells]
         if own_units == self._units:
             return

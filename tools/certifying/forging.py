@@ -223,7 +223,7 @@ def rigid_units(rng: random.Random, certificate: Certificate, bases: int, parame
 
 
 def as_if_loose(rng: random.Random, source: Source) -> str:
-    """The certificates of the program without its unit parameters, rigid units put behind those that need them."""
+    """The certificates of the program without its unit parameters, rigid units put after those that need them."""
     lines = source.text.split("\n")
     text = "\n".join(PARAMETERS.sub("", line, 1) if line.startswith("let") else line for line in lines)
     try:

@@ -230,7 +230,7 @@ def shown_equations(question: Question) -> str:
 
 
 def check(source: Source, text: str, hear: Callable[[Question], None] = lambda question: None) -> list[str]:
-    """The lines that the certificates show: the schemes, and the refusal; a Fault where they don't. The schemes and the
+    """The lines that the certificates show: the schemes, and the refusal; a Fault if they don't. The schemes and the
     refusal are then the source's. `hear` is told of each function before its certificate is judged."""
     source.schemes, source.refusal, shown = [], None, []
     certificates = Reader(source.program, text).certificates()

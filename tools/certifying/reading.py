@@ -44,7 +44,7 @@ class Certificate:
     places: dict[tuple[str, int], int] = field(default_factory=dict)
 
     def place(self, word: str, number: int = 0) -> int:
-        """The line of what stands behind a word and a number, or that of the heading."""
+        """The line of what stands after a word and a number, or that of the heading."""
         return self.places.get((word, number), self.line)
 
 

@@ -184,7 +184,7 @@ class Maker:
         self.program.functions.append(Function(name, params, result))
 
     def recursion(self, name: str, scope: list, result) -> str:
-        """A body that calls its own function, on the rest of a list or behind a condition."""
+        """A body that calls its own function, on the rest of a list or after a condition."""
         own = lambda change: " ".join([name] + [self.atom(change(binder)) for binder, _ in scope])
         lists = [(binder, kind) for binder, kind in scope if kind != "bool" and kind[0] == "list"]
         base = self.expr(result, scope, 1)

@@ -14,7 +14,7 @@ ODD = ["é", "_", "'u", "0<_>", "1x", "@", "\t", "\r\n", "//c", "922337203685477
 
 
 def tokens_of(text: str) -> list[str]:
-    """Rough tokens and white space, one behind the other."""
+    """Rough tokens and white space, one after another."""
     return TOKEN.findall(text)
 
 

@@ -17,7 +17,7 @@ pub struct Frac {
 }
 
 impl Frac {
-    /// The reduced quotient, or None where it doesn't fit.
+    /// The reduced quotient, or None if it doesn't fit.
     pub fn reduced(num: u128, den: u128) -> Option<Frac> {
         if den == 0 {
             return None;

@@ -11,7 +11,6 @@ use Rattle.um_front.specs.Stages.{CheckedTree, IsCheckedText}
 use Rattle.um_front.proofs.CheckedTexts.{shaped_is_formed}
 use Rattle.um_front.proofs.StageLaws.{checked_once}
 use Rattle.um_call_answers.specs.declared.way.Way.{Way}
-use Rattle.um_call_answers.specs.declared.way.Way.TheVariants as way
 use Rattle.um_call_answers.specs.AskedCall.{AskedCall}
 use Rattle.um_call_answers.specs.CallAnswer.{CallAnswer, IsCallAnswer, RunAnswer, IsOutcomeReply}
 use Rattle.um_call_answers.proofs.CallStage.{call_said_once}

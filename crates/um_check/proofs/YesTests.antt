@@ -27,6 +27,7 @@ pub valid_from : (bases parameters slots : ℕ) (rows : List PowerMap) (g : Sign
 valid_from bases parameters slots rows g s c sized solved shown general all = record {
   solves = record { per_slot = sized.units; solves = solved };
   below = sized.below;
+  back_count = sized.back;
   gives = shown;
   own = sized.own;
   comes_back = record {
@@ -43,6 +44,7 @@ pub sized_by : (bases parameters slots : ℕ) (rows : List PowerMap) (g : Signat
 sized_by bases parameters slots rows g s c v = record {
   units = v.solves.per_slot;
   parts = v.comes_back.per_slot ∙ sym v.solves.per_slot;
+  back = v.back_count;
   positive = v.comes_back.positive;
   below = v.below;
   own = v.own;

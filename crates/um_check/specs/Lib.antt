@@ -3,6 +3,7 @@ pub mod Combination
 pub mod Validity
 pub mod Refutation
 pub mod Existence
+pub mod Tidy
 -- What these definitions come to: statements, each proved as the contract of a function of src/laws.rt.
 pub mod Laws
 -- The code's.

@@ -66,10 +66,12 @@ type_below n (num_type u) = variables_below n u.terms
 type_below n (list_type t) = type_below n t
 type_below n (record_type r us) = units_below n us
 
--- there is a unit and a list of parts for each slot, the divisor is positive, and variables are below their numbers
+-- there is a unit and a list of parts for each slot and a way back for each variable, the divisor is positive, and
+-- variables are below their numbers
 pub record IsSized (slots : ℕ) (s : SchemeTree) (c : Yes) : Type 0 where
   pub units : length c.solution ≡ slots
   pub parts : length c.parts ≡ length c.solution
+  pub back : length c.back ≡ c.vars
   pub positive : pos 0 <ℤ c.divisor
   pub below : All (VariablesBelow c.vars) c.solution
   pub own : All (λ k. k < s.vars) (variables (signature_types s.signature))

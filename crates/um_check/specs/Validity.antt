@@ -39,11 +39,13 @@ abbrev pub ShowsGeneral : ℕ → ℕ → ℕ → List PowerMap → List PowerMa
 ShowsGeneral bases slots zero rows units = units ≡ []
 ShowsGeneral bases slots (suc n) rows units = IsJointSolution slots rows units × IsRigid bases (suc n) units
 
--- the certificate is valid for the scheme s of rows over so many slots, with types g over the slots
+-- the certificate is valid for the scheme s of rows over so many slots, with types g over the slots. It has a way back
+-- for each of its variables
 pub record IsValidYes
     (bases parameters slots : ℕ) (rows : List PowerMap) (g : Signature) (s : SchemeTree) (c : Yes) : Type 0 where
   pub solves : IsJointSolution slots rows c.solution
   pub below : All (VariablesBelow c.vars) c.solution
+  pub back_count : length c.back ≡ c.vars
   pub gives : put_signature (nth c.solution) g ≡ s.signature
   pub own : All (λ k. k < s.vars) (variables (signature_types s.signature))
   pub comes_back : ComesBack slots rows c.solution c.back c.divisor c.parts

@@ -19,8 +19,8 @@ use um_rows::{Row, Rows};
 use um_tree::Scheme;
 use um_units::{NoMemory, Unit};
 
-/// Whether there is a unit and a list of parts for each slot, the divisor is positive, and variables are below their
-/// numbers.
+/// Whether there is a unit and a list of parts for each slot and a way back for each variable, the divisor is positive,
+/// and variables are below their numbers.
 fn is_sized(slots: u32, scheme: &Scheme, cert: &Yes) -> bool
     ensures sized { IsTrue result ↔ IsSized slots (scheme_tree scheme.now) cert.now }
     ensures few { slots ≤ 4294967295 }
@@ -30,6 +30,10 @@ fn is_sized(slots: u32, scheme: &Scheme, cert: &Yes) -> bool
         return false;
     }
     if cert.parts.as_slice().len() != solution.len() {
+        return false;
+    }
+    let back = cert.back.as_slice();
+    if back.len() != cert.vars as usize {
         return false;
     }
     if cert.divisor <= 0 {

@@ -51,20 +51,20 @@ module _ (m : ℕ) where
   quotients_lack : (k p : ℕ) (r : PowerMap) → Lacks m r → Lacks m (quotients k p r)
   quotients_lack k p r h = power_of-quotients k p r (Base m) ∙ ap (less k p (Base m)) h ∙ less-zero k p (Base m)
 
-  substitute_lacks : (k : ℕ) (w : PowerMap) → Lacks m w → (j : ℕ) → Lacks m (substitute k w j)
+  pub substitute_lacks : (k : ℕ) (w : PowerMap) → Lacks m w → (j : ℕ) → Lacks m (substitute k w j)
   substitute_lacks k w h j = on_test (k == j) (λ e. rw e h) (λ e. rw e (variable_lacks m j))
 
   -- a step of a unit that lacks it brings it into no unit
-  by_lacks : (r : PowerMap) (t : ElimStep) → IsStepOf r t → Lacks m r → Lacks m t.by
+  pub by_lacks : (r : PowerMap) (t : ElimStep) → IsStepOf r t → Lacks m r → Lacks m t.by
   by_lacks r t w h = subst (λ (s : ElimStep). Lacks m s.by) (sym w.2) (quotients_lack w.0.variable (nat_abs w.0.power) (inverted_if_negative w.0.power r) (inverted_lacks w.0.power r h))
 
-  multiply_lacks : (r : PowerMap) (t : ElimStep) → IsStepOf r t → Lacks m r → (j : ℕ) → Lacks m (multiply t.variable t.by j)
+  pub multiply_lacks : (r : PowerMap) (t : ElimStep) → IsStepOf r t → Lacks m r → (j : ℕ) → Lacks m (multiply t.variable t.by j)
   multiply_lacks r t w h = substitute_lacks t.variable (mul (atom (Var t.variable)) t.by) (mul_lacks m (atom (Var t.variable)) t.by (variable_lacks m t.variable) (by_lacks r t w h))
 
-  unit_after_step_lacks : (r : PowerMap) (t : ElimStep) → IsStepOf r t → Lacks m r → Lacks m (signed t.inverted r)
+  pub unit_after_step_lacks : (r : PowerMap) (t : ElimStep) → IsStepOf r t → Lacks m r → Lacks m (signed t.inverted r)
   unit_after_step_lacks r t w h = subst (λ (s : ElimStep). Lacks m (signed s.inverted r)) (sym w.2) (signed_lacks w.0.power r h)
 
-  after_lack : (ts : List ElimStep) (r : PowerMap) (us : List PowerMap) → AreStepsOf r ts → Lacks m r → All (Lacks m) us → All (Lacks m) (units_after ts us)
+  pub after_lack : (ts : List ElimStep) (r : PowerMap) (us : List PowerMap) → AreStepsOf r ts → Lacks m r → All (Lacks m) us → All (Lacks m) (units_after ts us)
   after_lack [] r us w h all = all
   after_lack (t ∷ ts) r us w h all =
       let s = multiply t.variable t.by in
@@ -96,13 +96,13 @@ module _ (m : ℕ) where
       found rest NoSolution e = tt
       found rest Range e = tt
 
-  solved_lack : (rows : List Row) (us new : List PowerMap) → All (Lacks m) (units_of rows) → All (Lacks m) us → solve 0 rows us ≡ solved new → All (Lacks m) new
+  pub solved_lack : (rows : List Row) (us new : List PowerMap) → All (Lacks m) (units_of rows) → All (Lacks m) us → solve 0 rows us ≡ solved new → All (Lacks m) new
   solved_lack rows us new h all e = subst SolvingLacks e (solving_lacks 0 rows us h all)
 
   -- ---- unit parameters
   module _ (bases parameters slots : ℕ) (undeclared : bases ≤ m) where
     -- the slots of unit parameters have base units below bases + parameters
-    rigid_lack : bases + parameters ≤ m → All (Lacks m) (rigid_units bases parameters slots)
+    pub rigid_lack : bases + parameters ≤ m → All (Lacks m) (rigid_units bases parameters slots)
     rigid_lack past i d h =
         let low : i < slots = omega (arith, h, length-rigid bases parameters slots) in
         subst (Lacks m) (sym (get_or-map-range_with_len (rigid_unit bases parameters) 0 slots i i d low (omega arith)))
@@ -114,14 +114,14 @@ module _ (m : ℕ) where
     in_place x = atom (generalised_atom bases parameters slots x)
 
     -- behind the declared base units the first that stand for no unit parameter
-    past_parameters : (n : ℕ) → is_parameter bases parameters slots n ≡ false → m ≡ n → bases + parameters ≤ m
+    pub past_parameters : (n : ℕ) → is_parameter bases parameters slots n ≡ false → m ≡ n → bases + parameters ≤ m
     past_parameters n t e =
         on_test (nat_lt n bases)
         (λ b. let low : n < bases = grind (arith, nat_tests) in absurd (omega (arith, e, low, undeclared)))
         (λ b. let past : bases + parameters ≤ n = grind (arith, nat_tests) in omega (arith, e, past))
 
     -- a declared base unit stays, and the unit parameters' own become variables
-    general_lacks : (u : PowerMap) → (bases + parameters ≤ m → Lacks m u) → Lacks m (generalised_unit bases parameters slots u)
+    pub general_lacks : (u : PowerMap) → (bases + parameters ≤ m → Lacks m u) → Lacks m (generalised_unit bases parameters slots u)
     general_lacks u lacks =
         power_of-h (generalised_unit bases parameters slots) (extension-mul in_place) u (Base m) ∙ weight_held _ (λ _. pos 0) u at ∙ weigh_zero u.terms
       where

@@ -1,5 +1,5 @@
-mod Lacks
+pub mod Lacks
 mod NodeRules
 mod Derivations
-mod Elimination
+pub mod Elimination
 pub mod Inferred

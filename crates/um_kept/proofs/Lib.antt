@@ -4,6 +4,7 @@ mod Loops
 mod AfterSteps
 mod StepEnds
 mod Parts
+pub mod TidyParts
 pub mod WayBack
 mod RowStops
 pub mod Reached

@@ -8,6 +8,7 @@ ghost use Rattle.um_equal_types.specs.declared.row.Row.{Row as RowData};
 ghost use Rattle.um_wide.specs.Room.{IsNarrow};
 ghost use Rattle.um_check.specs.Combination.{NamesRowsBelow};
 ghost use Rattle.um_check.specs.Existence.{exponents};
+ghost use Rattle.um_check.specs.Tidy.{AreTidyParts};
 ghost use Rattle.um_kept.specs.Answers.{AreMade, CarriesInRows};
 
 use crate::CertStop;
@@ -54,12 +55,13 @@ pub fn make_rows(alloc: Global, head: Head, rows: &[Row]) -> Result<Treated, Cer
     Ok(Treated::Made(partial))
 }
 
-/// The powers of rows as parts.
+/// The powers of rows as parts, in the order of the rows.
 pub fn parts_of(alloc: Global, powers: &WideUnit) -> Result<Parts, NoMemory>
     requires narrow { IsNarrow powers.now }
     requires rows { (n : ℕ) → power_of powers.now (Base n) ≡ pos 0 }
     ensures exact { IfOk result (λ parts. exponents parts ≡ powers.now) }
     ensures named { (n : ℕ) → VariablesBelow n powers.now → IfOk result (NamesRowsBelow n) }
+    ensures tidy { (n : ℕ) → n ≤ 4294967295 → VariablesBelow n powers.now → IfOk result AreTidyParts }
 {
     let mut items = Vec::new(alloc);
     for term in powers.terms() {

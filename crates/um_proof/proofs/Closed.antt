@@ -29,7 +29,7 @@ pub closed_is : (u : PowerMap) → product (filter (λ (t : Term). is_base t.ato
 closed_is u =
     same_unit _ _ (λ x. weigh-product (indicator x) (filter (λ (t : Term). is_base t.atom) u.terms) ∙ weigh_bases (indicator x) u.terms ∙ sym (weight-replace (indicator x) ones u))
 
-weigh_zero : (ts : List Term) → weigh (λ _. pos 0) ts ≡ pos 0
+pub weigh_zero : (ts : List Term) → weigh (λ _. pos 0) ts ≡ pos 0
 weigh_zero [] = refl
 weigh_zero (t ∷ ts) = ap (λ n. t.power *ℤ pos 0 +ℤ n) (weigh_zero ts) ∙ tail_only t.power (pos 0)
 

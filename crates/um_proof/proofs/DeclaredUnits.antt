@@ -3,8 +3,9 @@ use Rattle.std.proofs.Common.{ℕ, ◌+◌, inl, inr, List, [], ◌∷◌, arith
 use Rattle.std.specs.Prelude.{All}
 use Rattle.std.proofs.lemmas.List.Elements.{All-nil, All-cons, All-head, All-tail}
 use Rattle.um_units.specs.declared.Atom.TheVariants.{Base}
-use Rattle.um_units.specs.PowerMap.{PowerMap, power_of}
+use Rattle.um_units.specs.PowerMap.{PowerMap, power_of, one}
 use Rattle.um_units.proofs.Integers.{zero_cases}
+use Rattle.um_units.proofs.Group.{power_of-one}
 use Rattle.um_tree.specs.TypeTree.{TypeTree, bool_type, num_type, list_type, record_type}
 use Rattle.um_tree.specs.Formed.{BasesBelow}
 use Rattle.um_tree.specs.Laws.{TypeHas}
@@ -28,3 +29,6 @@ module _ (bases parameters : ℕ) where
   types_none [] low = All-nil (TypeHas (HoldsNoParameter bases parameters))
   types_none (t ∷ ts) low =
       All-cons (TypeHas (HoldsNoParameter bases parameters)) t ts (type_none t (All-head (TypeHas (BasesBelow bases)) t ts low)) (types_none ts (All-tail (TypeHas (BasesBelow bases)) t ts low))
+
+pub one_declared : (n : ℕ) → BasesBelow n one
+one_declared n k held = absurd (held (power_of-one (Base k)))

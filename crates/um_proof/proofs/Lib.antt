@@ -7,6 +7,7 @@ mod WayBackSteps
 mod Closed
 mod DeclaredUnits
 pub mod Judged
+pub mod TidyYes
 pub mod ValidYes
 pub mod ValidNo
 pub mod CertifiedTypings

@@ -12,6 +12,7 @@ use Rattle.um_units.specs.PowerMap.{PowerMap, atom, replace, nth}
 use Rattle.um_units.specs.Variables.{VariablesBelow}
 use Rattle.um_units.proofs.Replacement.{replace-variable}
 use Rattle.um_tree.specs.TypeTree.{TypeTree, num_type}
+use Rattle.um_tree.specs.Formed.{BasesBelow}
 use Rattle.um_tree.specs.ProgramTree.{Signature}
 use Rattle.um_tree.specs.Typing.{put, put_signature}
 use Rattle.um_tree.specs.Scheme.{signature_types, unit_variables, type_variables, variables}
@@ -99,6 +100,7 @@ are_numbered g n many us types count e =
 
 -- ---- together
 pub is_renamed : {E : Type 0} (h : Head) (g : Signature) (units back : List PowerMap) (vars : ℕ) (result : Result Renaming E) → vars ≡ length (certificate_order h g units) → IfOk result (λ r. r.vars ≡ vars) →
-    IfOk result (λ r. r.solution.items ≡ map (replace (by_place (certificate_order h g units))) (general_units h g units)) → IfOk result (λ r. GoBack (certificate_order h g units) (held_variables h g units) back r.back.items) → IfOk result (IsRenamed h g units back)
-is_renamed h g units back vars (Ok r) long v s b = record { vars = v ∙ long; solution = s; back = b }
-is_renamed h g units back vars (Err e) long v s b = tt
+    IfOk result (λ r. r.solution.items ≡ map (replace (by_place (certificate_order h g units))) (general_units h g units)) → IfOk result (λ r. GoBack (certificate_order h g units) (held_variables h g units) back r.back.items) →
+    IfOk result (λ r. length r.back.items ≡ vars) → ((n : ℕ) → All (BasesBelow n) back → IfOk result (λ r. All (BasesBelow n) r.back.items)) → IfOk result (IsRenamed h g units back)
+is_renamed h g units back vars (Ok r) long v s b count declared = record { vars = v ∙ long; solution = s; back = b; back_count = count ∙ sym v; declared = declared }
+is_renamed h g units back vars (Err e) long v s b count declared = tt

@@ -234,11 +234,12 @@ module _ (bases parameters : ℕ) (r : Rows) (asked : AreFunctionRows bases para
             let inside : k < r.slots = omega (arith, l, few) in
             nth-map (replace (λ _. one)) units k (subst (λ n. k < n) (sym count) inside) ∙ ap (replace (λ _. one)) (state.rigid k l) ∙ replace-base (λ _. one) (bases + k)
 
-        pub valid_yes : (c : Yes) → c.vars ≡ length order → c.solution ≡ renamed → c.back ≡ back → c.divisor ≡ partial.divisor → c.parts ≡ parts → c.rigid ≡ cond (nat_eq parameters 0) [] closed →
+        pub valid_yes : (c : Yes) → c.vars ≡ length order → c.solution ≡ renamed → c.back ≡ back → length c.back ≡ c.vars → c.divisor ≡ partial.divisor → c.parts ≡ parts → c.rigid ≡ cond (nat_eq parameters 0) [] closed →
             IsValidYes bases parameters r.slots rows g s c
-        valid_yes c vars solution way divisor exps rigid = record {
+        valid_yes c vars solution way back_count divisor exps rigid = record {
           solves = subst (IsJointSolution r.slots rows) (sym solution) renamed_joint;
           below = subst (λ n. All (VariablesBelow n) c.solution) (sym vars) (subst (All (VariablesBelow (length order))) (sym solution) (renamed_below order variable_units listed));
+          back_count = back_count;
           gives = ap (λ us. put_signature (nth us) g) solution ∙ gives;
           own = own;
           comes_back =

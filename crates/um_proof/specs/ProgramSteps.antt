@@ -11,6 +11,7 @@ use Rattle.um_kept.specs.declared.stop.CertStop.TheVariants as stop
 use Rattle.um_proof.specs.declared.stop.ProveStop.{ProveStop}
 use Rattle.um_proof.specs.declared.stop.ProveStop.TheVariants as prove
 use Rattle.um_check.specs.declared.certificate.Yes.{Yes}
+use Rattle.um_check.specs.Tidy.{IsTidyYes}
 use Rattle.um_proof.specs.Proving.{IsYesOf, PassesInFunction}
 
 -- its rows pass no limit
@@ -38,6 +39,12 @@ abbrev pub AreYesOf : ProgramTree → List SchemeTree → List Yes → Type 0
 AreYesOf p schemes list =
     (i : ℕ) (f : FunctionTree) (s : SchemeTree) (c : Yes) → slice_get p.functions i ≡ Some f →
     slice_get schemes i ≡ Some s → slice_get list i ≡ Some c → IsYesOf p schemes i f s c
+
+-- each is tidy
+abbrev pub AreTidyYes : ProgramTree → List Yes → Type 0
+AreTidyYes p list =
+    (i : ℕ) (f : FunctionTree) (c : Yes) → slice_get p.functions i ≡ Some f → slice_get list i ≡ Some c →
+    IsTidyYes (length p.bases) f.units c
 
 -- the want of a certificate of function i as the program's
 abbrev pub of_function : ℕ → CertStop → ProveStop

@@ -13,6 +13,7 @@ use Rattle.um_check.specs.declared.certificate.Yes.{Yes}
 use Rattle.um_check.specs.declared.certificate.No.{No}
 use Rattle.um_check.specs.Validity.{IsValidYes}
 use Rattle.um_check.specs.Refutation.{IsValidNo}
+use Rattle.um_check.specs.Tidy.{IsTidyYes, IsTidyNo}
 use Rattle.um_proof.specs.declared.proofs.Proofs.{Proofs}
 use Rattle.um_proof.specs.declared.stop.ProveStop.{ProveStop}
 use Rattle.um_proof.specs.declared.stop.ProveStop.TheVariants as stop
@@ -53,6 +54,12 @@ pub record AreProofs (p : ProgramTree) (proofs : Proofs) : Type 0 where
       IsYesOf p (scheme_trees proofs.schemes) i f s c
   pub no : IsRefusal p (scheme_trees proofs.schemes) (infer p) proofs.no
 
+-- each of the certificates is tidy
+pub record AreTidyProofs (p : ProgramTree) (proofs : Proofs) : Type 0 where
+  pub yes : (i : ℕ) (f : FunctionTree) (c : Yes) → slice_get p.functions i ≡ Some f →
+      slice_get proofs.yes.items.items i ≡ Some c → IsTidyYes (length p.bases) f.units c
+  pub no : (c : No) → proofs.no ≡ Some c → IsTidyNo c
+
 -- the inference of the program stops for no limit
 abbrev pub IsWithinLimits : Inference → Type 0
 IsWithinLimits (stops_at_slots i) = ⊥
@@ -70,7 +77,7 @@ PassesInFunction p i z =
     × PassesInRows (rows_at p schemes i f) (first (length p.bases) 0 (slots_at p schemes i f)) z))
 
 abbrev pub IsProved : ProgramTree → Result Proofs ProveStop → Type 0
-IsProved p (Ok proofs) = AreProofs p proofs
+IsProved p (Ok proofs) = AreProofs p proofs × AreTidyProofs p proofs
 IsProved p (Err (stop.Slots i)) = infer p ≡ stops_at_slots i
 IsProved p (Err (stop.PowerRange i at)) = infer p ≡ stops_at_range i at
 IsProved p (Err (stop.CertRange i z)) = IsWithinLimits (infer p) × PassesInFunction p i z

@@ -6,6 +6,7 @@ use Rattle.um_units.specs.declared.Atom.{Atom}
 use Rattle.um_units.specs.declared.Atom.TheVariants.{Base, Var}
 use Rattle.um_units.specs.PowerMap.{PowerMap, atom, replace, nth}
 use Rattle.um_tree.specs.TypeTree.{TypeTree, num_type}
+use Rattle.um_tree.specs.Formed.{BasesBelow}
 use Rattle.um_tree.specs.ProgramTree.{Signature}
 use Rattle.um_tree.specs.Typing.{put_signature}
 use Rattle.um_tree.specs.Scheme.{signature_types, unit_variables}
@@ -65,3 +66,5 @@ module _ (h : Head) (g : Signature) (units : List PowerMap) where
     pub vars : r.vars ≡ length certificate_order
     pub solution : r.solution.items ≡ map (replace (by_place certificate_order)) general_units
     pub back : GoBack certificate_order held_variables way r.back.items
+    pub back_count : length r.back.items ≡ r.vars
+    pub declared : (n : ℕ) → All (BasesBelow n) way → All (BasesBelow n) r.back.items

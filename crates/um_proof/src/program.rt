@@ -1,16 +1,19 @@
 //! The certificates of a program.
 
-ghost use Rattle.std.specs.Prelude.{◌≡◌, ◌<◌, ◌≤◌, [], length, slice_get, Some, IfOk, IfErr, OnOk};
+ghost use Rattle.std.specs.Prelude.{◌≡◌, ◌<◌, ◌≤◌, [], All, length, slice_get, Some, IfOk, IfErr, OnOk};
 ghost use Rattle.um_tree.specs.ProgramTree.{FunctionTree, SchemeTree, program_tree};
-ghost use Rattle.um_tree.specs.Formed.{IsFormed};
+ghost use Rattle.um_tree.specs.Formed.{BasesBelow, IsFormed};
 ghost use Rattle.um_tree.specs.Shapes.{IsShaped};
+ghost use Rattle.um_equal_types.specs.Steps.{units_of};
 ghost use Rattle.um_rows.specs.Answers.{AreRowsOf};
 ghost use Rattle.um_infer.specs.Answers.{scheme_trees};
 ghost use Rattle.um_infer.specs.Inference.{all_schemes, infer, infer_first};
+ghost use Rattle.um_check.specs.declared.certificate.No.{No as NoData};
+ghost use Rattle.um_check.specs.Tidy.{IsTidyYes, IsTidyNo};
 ghost use Rattle.um_kept.specs.declared.stop.CertStop.TheVariants.{NoMemory};
 ghost use Rattle.um_proof.specs.Answers.{AreFunctionRows};
 ghost use Rattle.um_proof.specs.Proving.{IsProved, IsRefusal, IsYesOf};
-ghost use Rattle.um_proof.specs.ProgramSteps.{AreYesOf, CarriesInFunction, CarriesInSome, HasRows};
+ghost use Rattle.um_proof.specs.ProgramSteps.{AreYesOf, AreTidyYes, CarriesInFunction, CarriesInSome, HasRows};
 ghost use Rattle.um_proof.specs.ProgramSteps.{HaveInferred, IsFirstRefused, of_function};
 
 use crate::{Proofs, ProveStop, YesList, make_no, make_yes};
@@ -27,7 +30,7 @@ use um_tree::Schemes;
 ///
 /// Slots and PowerRange come exactly if `infer` answers them. Otherwise CertRange comes only if a number that is formed
 /// for the certificate of the function overflows what a certificate can hold, and carries the number. Each certificate
-/// is valid.
+/// is valid and tidy.
 pub fn prove(alloc: Global, shaped: &Shaped) -> Result<Proofs, ProveStop>
     ensures { IsProved (program_tree shaped.now) result }
 {
@@ -89,6 +92,7 @@ fn with_yes(
         ≡ all_schemes (scheme_trees schemes) }
     requires few { length schemes.items.items ≤ length (program_tree shaped.now).functions }
     requires no { IsRefusal (program_tree shaped.now) (scheme_trees schemes) (infer (program_tree shaped.now)) no }
+    requires tidy { (refusal : NoData) → no ≡ Some refusal → IsTidyNo refusal }
     ensures { IsProved (program_tree shaped.now) result }
 {
     let mut items: Vec<Yes> = Vec::new(alloc);
@@ -122,6 +126,7 @@ fn add_yes(
     requires few { length schemes.now.items.items ≤ length (program_tree shaped.now).functions }
     ensures count { OnOk result (length items.new.items ≡ length schemes.now.items.items) }
     ensures valid { OnOk result (AreYesOf (program_tree shaped.now) (scheme_trees schemes.now) items.new.items) }
+    ensures tidy { OnOk result (AreTidyYes (program_tree shaped.now) items.new.items) }
     ensures range { IfErr result (CarriesInSome (program_tree shaped.now)) }
 {
     for i in 0..count {
@@ -141,6 +146,8 @@ fn yes_of(alloc: Global, shaped: &Shaped, i: u32, schemes: &Schemes) -> Result<Y
     ensures valid { (f : FunctionTree) (s : SchemeTree) → slice_get (program_tree shaped.now).functions i ≡ Some f
         → slice_get (scheme_trees schemes.now) i ≡ Some s
         → IfOk result (IsYesOf (program_tree shaped.now) (scheme_trees schemes.now) i f s) }
+    ensures tidy { (f : FunctionTree) → slice_get (program_tree shaped.now).functions i ≡ Some f
+        → IfOk result (IsTidyYes (length (program_tree shaped.now).bases) f.units) }
     ensures range { IfErr result (CarriesInFunction (program_tree shaped.now) i) }
 {
     let bases = base_count(shaped);
@@ -156,6 +163,7 @@ fn refusal_of(alloc: Global, shaped: &Shaped, i: u32, schemes: &Schemes) -> Resu
     requires before { infer_first (program_tree shaped.now) i ≡ all_schemes (scheme_trees schemes.now) }
     ensures valid { IfOk result (λ no. IsRefusal (program_tree shaped.now) (scheme_trees schemes.now)
         (infer (program_tree shaped.now)) (Some no)) }
+    ensures tidy { IfOk result IsTidyNo }
     ensures range { IfErr result (CarriesInFunction (program_tree shaped.now) i) }
 {
     let bases = base_count(shaped);
@@ -176,6 +184,8 @@ fn rows_of(alloc: Global, shaped: &Shaped, i: u32, schemes: &Schemes) -> Result<
     ensures equations { IfOk result (AreRowsOf (program_tree shaped.now) (scheme_trees schemes.now) i) }
     ensures rows { (f : FunctionTree) → slice_get (program_tree shaped.now).functions i ≡ Some f
         → IfOk result (AreFunctionRows (length (program_tree shaped.now).bases) f.units) }
+    ensures declared { IfOk result (λ rows. All (BasesBelow (length (program_tree shaped.now).bases))
+        (units_of rows.list.items.items)) }
     ensures memory { IfErr result (λ stop. stop ≡ NoMemory) }
 {
     match rows(alloc, shaped, i, schemes) {

@@ -12,6 +12,7 @@ ghost use Rattle.um_equal_types.specs.Steps.{units_of};
 ghost use Rattle.um_check.specs.Combination.{NamesRowsBelow};
 ghost use Rattle.um_check.specs.Refutation.{IsValidNo};
 ghost use Rattle.um_check.specs.Existence.{exponents};
+ghost use Rattle.um_check.specs.Tidy.{IsTidyNo};
 ghost use Rattle.um_kept.specs.declared.stop.CertStop.TheVariants.{NoMemory};
 ghost use Rattle.um_kept.specs.Answers.{AreRefused, CarriesInRows};
 ghost use Rattle.um_proof.specs.Answers.{AreFunctionRows, judged, IsRefused, IsNoMade};
@@ -27,11 +28,12 @@ use um_rows::{Row, Rows};
 ///
 /// It is `loose` if the rows up to that one have no solution with the unit parameters as slots like the others.
 /// CertRange comes only if one of the numbers that are formed for it overflows what a certificate can hold, and carries
-/// the number. With Ok the certificate is valid.
+/// the number. With Ok the certificate is valid and tidy.
 pub fn make_no(alloc: Global, rows: &Rows, units: u32, bases: u32) -> Result<No, CertStop>
     requires rows { AreFunctionRows bases units rows.now }
     requires refused { IsRefused (judged bases units 0 rows.now) }
     ensures made { IsNoMade bases units rows.now (judged bases units 0 rows.now) result }
+    ensures tidy { IfOk result IsTidyNo }
 {
     let head = Head {
         slots: rows.slots,
@@ -61,7 +63,8 @@ fn refusal(
     requires judged { IsRefused (judged bases units 0 rows.now) }
     requires refused { AreRefused (record { slots = rows.now.slots; parameters = units; bases = bases })
         rows.now.list.items.items row refused }
-    ensures { IsNoMade bases units rows.now (judged bases units 0 rows.now) result }
+    ensures made { IsNoMade bases units rows.now (judged bases units 0 rows.now) result }
+    ensures tidy { IfOk result IsTidyNo }
 {
     if units == 0 {
         return no_of(alloc, true, row, refused);
@@ -97,6 +100,7 @@ fn loose_no(alloc: Global, slots: u32, bases: u32, rows: &[Row], last: u32) -> R
     ensures valid { (parameters : ℕ) → IfOk result (IsValidNo bases parameters (units_of rows.now)) }
     ensures last { IfOk result (λ no. no.last ≡ last) }
     ensures loose { IfOk result (λ no. no.loose ≡ true) }
+    ensures tidy { IfOk result IsTidyNo }
     ensures range { IfErr result (CarriesInRows (record { slots = slots; parameters = 0; bases = bases }) rows.now) }
 {
     let head = Head {
@@ -160,6 +164,7 @@ fn no_of(alloc: Global, loose: bool, last: u32, refused: Refused) -> Result<No, 
     ensures modulus { IfOk result (λ no. no.modulus ≡ refused.modulus) }
     ensures parts { IfOk result (λ no. exponents no.parts ≡ refused.total) }
     ensures named { (n : ℕ) → VariablesBelow n refused.total → IfOk result (λ no. NamesRowsBelow n no.parts) }
+    ensures tidy { (n : ℕ) → n ≤ 4294967295 → VariablesBelow n refused.total → IfOk result IsTidyNo }
     ensures memory { IfErr result (λ stop. stop ≡ NoMemory) }
 {
     let made = parts_of(alloc, &refused.total);

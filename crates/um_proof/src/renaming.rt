@@ -9,6 +9,7 @@ ghost use Rattle.um_units.specs.declared.Term.{Term as TermData};
 ghost use Rattle.um_units.specs.PowerMap.{PowerMap, one, atom, nth};
 ghost use Rattle.um_units.specs.Variables.{VariablesBelow, atom_below, variables_below};
 ghost use Rattle.um_tree.specs.TypeTree.{num_type, type_tree, type_trees};
+ghost use Rattle.um_tree.specs.Formed.{BasesBelow};
 ghost use Rattle.um_tree.specs.Typing.{put, put_signature};
 ghost use Rattle.um_tree.specs.Scheme.{atom_variables, signature_types, variables};
 ghost use Rattle.um_elim.specs.Application.{type_fits};
@@ -263,6 +264,8 @@ fn read_numbered(
     ensures back { (order : List ℕ) (units : List PowerMap)
         → AreNumbered first order held.now units (type_trees numbered.now.types)
         → IfOk result (λ r. GoBack order held.now back.now r.back.items) }
+    ensures count { IfOk result (λ r. length r.back.items ≡ numbered.now.vars) }
+    ensures declared { (n : ℕ) → All (BasesBelow n) back.now → IfOk result (λ r. All (BasesBelow n) r.back.items) }
 {
     let types = &numbered.types.items;
     let solution = units_of(alloc, &types[first + held.len()..])?;
@@ -316,8 +319,10 @@ fn way_back(
 ) -> Result<Vec<Unit>, AllocError>
     requires places { (order : List ℕ) × (length order ≡ vars) × ArePlaces order held.now (map type_tree places.now) }
     requires held { All (λ k. k < length back.now) held.now }
-    ensures { (order : List ℕ) → ArePlaces order held.now (map type_tree places.now)
+    ensures back { (order : List ℕ) → ArePlaces order held.now (map type_tree places.now)
         → IfOk result (λ new. GoBack order held.now back.now new.items) }
+    ensures count { IfOk result (λ new. length new.items ≡ vars) }
+    ensures declared { (n : ℕ) → All (BasesBelow n) back.now → IfOk result (λ new. All (BasesBelow n) new.items) }
 {
     let mut out = ones(alloc, vars)?;
     for i in 0..held.len() {

@@ -6,6 +6,7 @@ ghost use Rattle.um_units.specs.declared.Atom.TheVariants.{Base, Var};
 ghost use Rattle.um_units.specs.declared.Term.{Term as TermData};
 ghost use Rattle.um_units.specs.PowerMap.{one, atom, inv, mul, nth, power_of, replace};
 ghost use Rattle.um_units.specs.Variables.{VariablesBelow};
+ghost use Rattle.um_tree.specs.Formed.{BasesBelow};
 ghost use Rattle.um_tree.specs.ProgramTree.{SchemeTree, scheme_tree};
 ghost use Rattle.um_wide.specs.Room.{IsNarrow};
 ghost use Rattle.um_equal_types.specs.Steps.{units_of};
@@ -13,6 +14,7 @@ ghost use Rattle.um_rows.specs.Judgement.{has_scheme};
 ghost use Rattle.um_check.specs.Combination.{NamesRowsBelow};
 ghost use Rattle.um_check.specs.Validity.{returned};
 ghost use Rattle.um_check.specs.Existence.{exponents};
+ghost use Rattle.um_check.specs.Tidy.{AreTidyParts, IsTidyYes};
 ghost use Rattle.um_kept.specs.Kept.{Kept, IsReached};
 ghost use Rattle.um_kept.specs.Answers.{Agrees, CarriesPower, start};
 ghost use Rattle.um_proof.specs.Steps.{CarriesReturned};
@@ -33,7 +35,8 @@ use um_wide::WideUnit;
 ///
 /// Beside the elimination of the rows an inverse substitution of the solution is kept (Kennedy 1996; what is kept is
 /// this project's own). CertRange comes only if one of the numbers that are formed for it overflows what a certificate
-/// can hold, and carries the number. With Ok the certificate is valid.
+/// can hold, and carries the number. With Ok the certificate is valid, and tidy if the rows hold declared base units
+/// alone.
 pub fn make_yes(
     alloc: Global,
     rows: &Rows,
@@ -44,6 +47,8 @@ pub fn make_yes(
     requires rows { AreFunctionRows bases units rows.now }
     requires judged { (at : ℕ) × (judged bases units at rows.now ≡ has_scheme (scheme_tree scheme.now)) }
     ensures made { IsYesMade bases units rows.now (scheme_tree scheme.now) result }
+    ensures tidy { All (BasesBelow bases) (units_of rows.now.list.items.items)
+        → IfOk result (IsTidyYes bases units) }
 {
     let head = Head {
         slots: rows.slots,
@@ -78,8 +83,10 @@ fn certificate(
         (length rows.now.list.items.items) kept
         × Agrees (record { slots = rows.now.slots; parameters = units; bases = bases }) partial.now kept }
     requires judged { (at : ℕ) × (s : SchemeTree) × (judged bases units at rows.now ≡ has_scheme s) }
-    ensures { (at : ℕ) (s : SchemeTree) → judged bases units at rows.now ≡ has_scheme s
+    ensures made { (at : ℕ) (s : SchemeTree) → judged bases units at rows.now ≡ has_scheme s
         → IsYesMade bases units rows.now s result }
+    ensures tidy { All (BasesBelow bases) (units_of rows.now.list.items.items)
+        → IfOk result (IsTidyYes bases units) }
 {
     let head = Head {
         slots: rows.slots,
@@ -112,6 +119,8 @@ fn with_parts(
     ensures parts { IfOk result (λ yes. map exponents yes.parts ≡ partial.now.parts.items) }
     ensures named { (n : ℕ) → All (VariablesBelow n) partial.now.parts.items
         → IfOk result (λ yes. All (NamesRowsBelow n) yes.parts) }
+    ensures tidy { (n : ℕ) → n ≤ 4294967295 → All (VariablesBelow n) partial.now.parts.items
+        → IfOk result (λ yes. All AreTidyParts yes.parts) }
     ensures rigid { IfOk result (λ yes. yes.rigid
         ≡ (if nat_eq units 0 then [] else map (replace (λ _. one)) partial.now.solution.items)) }
 {
@@ -214,6 +223,7 @@ fn part_lists(alloc: Global, powers: &[WideUnit]) -> Result<PartLists, NoMemory>
     requires rows { All (λ u. (n : ℕ) → power_of u (Base n) ≡ pos 0) powers.now }
     ensures exact { IfOk result (λ lists. map exponents lists ≡ powers.now) }
     ensures named { (n : ℕ) → All (VariablesBelow n) powers.now → IfOk result (All (NamesRowsBelow n)) }
+    ensures tidy { (n : ℕ) → n ≤ 4294967295 → All (VariablesBelow n) powers.now → IfOk result (All AreTidyParts) }
 {
     let mut items: Vec<Parts> = Vec::new(alloc);
     for slot in powers {

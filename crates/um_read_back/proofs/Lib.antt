@@ -8,7 +8,7 @@ mod Spaces
 mod Loosened
 mod Labels
 mod LabelTexts
-mod UnitSizes
+pub mod UnitSizes
 mod OwnUnits
 mod OwnTexts
 mod UnitNotes

@@ -13,7 +13,7 @@ use Rattle.um_check.specs.declared.certificate.No.{No}
 use Rattle.um_proof.specs.declared.proofs.Proofs.{Proofs}
 use Rattle.um_proof.specs.declared.stop.ProveStop.{ProveStop}
 use Rattle.um_proof.specs.declared.stop.ProveStop.TheVariants as prove_stop
-use Rattle.um_proof.specs.Proving.{IsRefusal, AreProofs, PassesInFunction, IsWithinLimits, IsProved}
+use Rattle.um_proof.specs.Proving.{IsRefusal, AreProofs, AreTidyProofs, PassesInFunction, IsWithinLimits, IsProved}
 use Rattle.um_certificates.specs.CertificateText.{certificates_text}
 use Rattle.um_orders.specs.declared.order.Order.TheVariants.{Prove}
 use Rattle.um_orders.specs.Orders.{order_of}
@@ -69,10 +69,10 @@ module _ (p : ProgramTree) (formed : IsFormed p) (proofs : Proofs) (valid : AreP
       let placed = subst (λ k. IsFirstNotGeneral p n k at) (sym last) (subst (λ k. IsFirstNotGeneral p k row at) first u) in
       ((at, inr (loose, placed)), omega (arith, below, first))
 
-  certificates : AreCertificates p proofs
-  certificates =
+  certificates : AreTidyProofs p proofs → AreCertificates p proofs
+  certificates tidy =
       let end = ended (infer p) proofs.no refl valid.no in
-      record { valid = valid; principal = first_are_principal p formed n schemes end.1 valid.schemes; ends = end.0 }
+      record { valid = valid; tidy = tidy; principal = first_are_principal p formed n schemes end.1 valid.schemes; ends = end.0 }
 
 -- ---- what is printed
 module _ (bytes text : List ℕ) where
@@ -80,7 +80,7 @@ module _ (bytes text : List ℕ) where
   ArePrinted p = (proofs : Proofs) × AreCertificates p proofs × (text ≡ certificates_text p proofs.yes.items.items proofs.no)
 
   printed : (p : ProgramTree) → IsFormed p → (r : Result Proofs ProveStop) → IsProved p r → IsProofReply bytes p r text Done → ArePrinted p
-  printed p formed (Ok proofs) valid reply = (proofs, certificates p formed proofs valid, reply.0)
+  printed p formed (Ok proofs) (valid, tidy) reply = (proofs, certificates p formed proofs valid tidy, reply.0)
   printed p formed (Err (prove_stop.Slots i)) valid reply = absurd (cc reply.2.1)
   printed p formed (Err (prove_stop.PowerRange i at)) valid reply = absurd (cc reply.2.1)
   printed p formed (Err (prove_stop.CertRange i number)) valid reply = absurd (cc reply.2.1)
@@ -140,7 +140,7 @@ module _ (bytes text other : List ℕ) (status another : Status) (p : ProgramTre
 
   -- they come only where no limit is passed
   held_within : (r : Result Proofs ProveStop) → IsHeld r → IsProved p r → IsWithinLimits (infer p)
-  held_within (Ok proofs) held valid = by (infer p) proofs.no valid.no where
+  held_within (Ok proofs) held (valid, tidy) = by (infer p) proofs.no valid.no where
     by : (inferred : Inference) (last : Option No) → IsRefusal p (scheme_trees proofs.schemes) inferred last → IsWithinLimits inferred
     by (all_schemes all) last refused = tt
     by (stops_at_slots i) last refused = refused

@@ -7,7 +7,7 @@ use Rattle.um_infer.specs.Answers.{scheme_trees}
 use Rattle.um_infer.specs.Schemes.{ArePrincipal, IsFirstWithoutUnits, IsFirstNotGeneral}
 use Rattle.um_check.specs.declared.certificate.No.{No}
 use Rattle.um_proof.specs.declared.proofs.Proofs.{Proofs}
-use Rattle.um_proof.specs.Proving.{AreProofs, PassesInFunction}
+use Rattle.um_proof.specs.Proving.{AreProofs, AreTidyProofs, PassesInFunction}
 use Rattle.um_certificates.specs.CertificateText.{certificates_text}
 use Rattle.um_orders.specs.declared.order.Order.TheVariants.{Prove}
 use Rattle.um_orders.specs.Orders.{order_of}
@@ -32,9 +32,11 @@ EndsProofs p n (Some c) =
     × (((c.loose ≡ true) × IsFirstWithoutUnits p n c.last at)
     ⊎ ((c.loose ≡ false) × IsFirstNotGeneral p n c.last at))
 
--- the schemes of the first functions are principal, each has a valid certificate, and so has the refusal of the next
+-- the schemes of the first functions are principal, each has a valid certificate, and so has the refusal of the next.
+-- These certificates are tidy
 pub record AreCertificates (p : ProgramTree) (proofs : Proofs) : Type 0 where
   pub valid : AreProofs p proofs
+  pub tidy : AreTidyProofs p proofs
   pub principal : ArePrincipal p (length proofs.schemes.items.items) (scheme_trees proofs.schemes)
   pub ends : EndsProofs p (length proofs.schemes.items.items) proofs.no
 

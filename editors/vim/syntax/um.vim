@@ -26,7 +26,7 @@ syntax keyword umType num nextgroup=umUnits skipwhite skipnl
 syntax match umDeclared contained "\<\d\@!\k\+"
 syntax match umDeclaredRecord contained "\<\d\@!\k\+"
 
-" Units: behind a number directly, behind `num` and behind a record's name in a type.
+" Units: after a number directly, after `num` and after a record's name in a type.
 syntax cluster umUnit contains=umComment,umMeasure,umUnitVariable,umUnitHole,umUnitOperator,umPower
 syntax match umMeasure contained "\<\d\@!\k\+"
 syntax match umUnitHole contained "\<_\>"

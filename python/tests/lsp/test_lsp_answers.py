@@ -30,7 +30,7 @@ def details(found: Any) -> dict[str, str]:
 
 
 def written(text: Text, more: str, mark: str = "§") -> tuple[Text, Json]:
-    """A text with more behind it, and the place of the mark in it, which is left out."""
+    """A text with more after it, and the place of the mark in it, which is left out."""
     whole = text.text + more
     offset = whole.index(mark)
     text.replace(whole.replace(mark, "", 1))

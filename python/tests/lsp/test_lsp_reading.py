@@ -99,7 +99,8 @@ def test_tokens_are_the_text(text: str) -> None:
     ("x é1 मीटर _ _a let", "name name name hole name word"), ("'u 'é '", "variable variable bad"),
     ("12 2.5 7r2 3. 4r 5.x", "number number number number sign number name number sign name"),
     ("[< > >= <= <> :: || | && & -> - //c", "sign sign sign sign sign sign sign sign sign sign bad sign sign comment"),
-    ("é² a€b", "name bad name bad name"), ("café 'mètre aé1b x_é", "name variable name name"), ("x//y\r\nz", "name comment name"), ("\ufeffx \ufeff", "name bad")])
+    ("é² a€b", "name bad name bad name"), ("café 'mètre aé1b x_é", "name variable name name"),
+    ("x//y\r\nz", "name comment name"), ("\ufeffx \ufeff", "name bad")])
 def test_kinds(text: str, kinds: str) -> None:
     assert [token.kind.value for token in split(text)] == kinds.split()
 

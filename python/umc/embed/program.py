@@ -29,7 +29,7 @@ Units = str | Sequence[str | None] | None
 
 
 def engine_of(limits: Limits) -> Engine:
-    """The shared library where it is there, otherwise the program. Only a process can be held within limits."""
+    """The shared library if it is there, otherwise the program. Only a process can be held within limits."""
     if limits == NONE and find() is not None:
         return Library()
     return Process(limits=limits)
@@ -43,7 +43,7 @@ class Program:
     budget: how many calls a call may make at most
     limits: `umc.Limits(time=2, memory=500 << 20, output=1 << 20)` of each question, which takes a process for each
     file: the file's name, if the text is that of a file: its first line may ask for other files
-    engine: `umc.Process(path)` or `umc.Library(path)`; otherwise the library if it is there, or else the program
+    engine: `umc.Process(path)` or `umc.Library(path)`; otherwise the library, or the program if it isn't there
 
     Raises `umc.Refused` if the text is refused.
     """

@@ -77,7 +77,7 @@ class Quantity:
     def to(self, unit: str, digits: int | None = None) -> "Quantity":
         """The same quantity in another unit: one of the program, as `J`, or a size with a name, as `ft=0.3048<m>`.
 
-        The program computes it. Where the two units are different measures, a function of the program whose name is
+        The program computes it. If the two units are different measures, a function of the program whose name is
         `m_to_ft` goes from one to the other. `digits` rounds what comes.
         """
         if self._convert is None:
@@ -88,7 +88,8 @@ class Quantity:
     def to_pint(self, registry: Any = None) -> Any:
         """The same as a quantity of pint, in the registry that is named or in that of the application."""
         import pint     # Debian's python3-pint
-        units = pint.get_application_registry() if registry is None else registry
+        module: Any = pint
+        units = module.get_application_registry() if registry is None else registry
         whole = units.Unit("")
         for name, power in self.powers.items():
             whole = whole * units.Unit(name) ** power

@@ -64,5 +64,5 @@ class Cursor:
 
 
 def annotation(tokens: list[Token]) -> Annotation | None:
-    """A type as it is written; None where nothing is."""
+    """A type as it is written; None if there is none."""
     return Annotation(tokens) if tokens else None

@@ -1,7 +1,7 @@
 """A section of a text: one declaration with the comments in it and after it, or what stands before the first one.
 
-The same section is the same in each text, wherever it stands. It is read when something in it is asked. What it declares
-is mostly told by its first words.
+The same section is the same in each text, wherever it stands. It is read when something in it is asked. What it
+declares is mostly told by its first words.
 """
 import re
 from dataclasses import dataclass

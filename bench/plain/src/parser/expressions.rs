@@ -228,7 +228,7 @@ impl<'t, 'a> Parser<'t, 'a> {
         Ok((self.node(at, RawNode::Num(value, note)), 1))
     }
 
-    /// The unit directly behind a number, where there is one.
+    /// The unit directly after a number, if there is one.
     pub fn glued_note(&mut self) -> Parse<Option<RawNote<'a>>> {
         if !self.is(Sign::Less) || !self.tokens[self.next].glued {
             return Ok(None);

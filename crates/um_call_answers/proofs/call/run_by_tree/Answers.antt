@@ -1,5 +1,5 @@
-use Rattle.std.proofs.Common.{◌≡◌, Some, map, refl, sym, ap, subst}
-use Rattle.um_tree.specs.ValueTree.{value_tree, outcome_tree}
+use Rattle.std.proofs.Common.{◌≡◌, Some, refl, sym, ap, subst}
+use Rattle.um_tree.specs.ValueTree.{outcome_tree}
 use Rattle.um_tree.specs.ProgramTree.{program_tree}
 use Rattle.um_tree.specs.Meaning.{outcome_of_call}
 use Rattle.um_cells.specs.Arguments.{AreArgumentsOf}

@@ -13,6 +13,7 @@ returns-then-units_below-clause-sized c =
       (λ g. record {
         units = ap length (sym items) ∙ c.if-solution-slots.false;
         parts = ap length (sym c.as_slice.ensures.items) ∙ c.if-as_slice-solution.false ∙ ap length items;
+        back = ap length (sym c.as_slice-back.ensures.items) ∙ c.if-back-cert.false;
         positive = omega (arith, ints);
         below = units_below-all cert.vars cert.solution (ap (units_below cert.vars) (sym items) ∙ sym c.units_below.ensures ∙ c.if-units_below.true);
         own = types_all s.vars s.params.items.items (type_tree s.result) (sym c.is_over_own.ensures ∙ g);

@@ -1,5 +1,5 @@
 use Rattle.std.proofs.Common.{◌≡◌, ◌<◌, ◌≤◌, ◌∙◌, ℕ, List, [], ◌∷◌, ◌++◌, map, take, length, pos, nat_abs, to_z, of_z, w64, FitsSigned, true, sym, ap, subst, rules, arith}
-use Rattle.std.specs.Prelude.{All, slice_index_or}
+use Rattle.std.specs.Prelude.{All, IsTrue, slice_index_or}
 use Rattle.std.specs.Int.{w128}
 use Rattle.std.proofs.lemmas.Bool.{ltb-true}
 use Rattle.std.proofs.lemmas.Int.{to_z-of_z}
@@ -9,22 +9,22 @@ use Rattle.um_units.specs.declared.Atom.{Atom}
 use Rattle.um_units.specs.declared.Atom.TheVariants.{Base, Var}
 use Rattle.um_units.specs.declared.Term.{Term}
 use Rattle.um_units.specs.PowerMap.{power_of, product}
+use Rattle.um_units.specs.Terms.{is_normal}
 use Rattle.um_units.specs.Variables.{atom_below}
 use Rattle.um_units.proofs.Equality.{product-of_terms}
 use Rattle.um_units.specs.declared.wide.WideTerm.{WideTerm}
 use Rattle.um_units.specs.Wide.{as_term}
 use Rattle.um_check.specs.declared.certificate.Part.{Part}
 use Rattle.um_check.specs.Combination.{NamesRowsBelow}
+use Rattle.um_check.specs.Tidy.{AreTidyParts}
 use Rattle.um_kept.specs.Formed.{IsPowerIn}
 use Rattle.um_kept.proofs.Limits.{power_held, held_at, narrow64}
 use Rattle.um_kept.proofs.Parts.{row_below}
+use Rattle.um_kept.proofs.TidyParts.{of_part, tidy_parts}
 use Rattle.um_kept.proofs.made.parts_of.Goals as goal
 
 abbrev none : WideTerm
 none = record { atom = Base 0; power = pos 0 }
-
-abbrev of_part : Part → Term
-of_part p = record { atom = Var p.row; power = p.times }
 
 -- parts of variables below n name rows below n
 named_below : (n : ℕ) (ps : List Part) → All (λ (t : Term). atom_below n t.atom ≡ true) (map of_part ps) → NamesRowsBelow n ps
@@ -74,6 +74,16 @@ returns-clause-exact c =
     let all : take c.loop-term.term-index ws ≡ ws = take_all c.loop-term.term-index ws (omega (arith, past)) in
     ap (λ (ps : List Part). product (map of_part ps)) c.from_vec.ensures.items
     ∙ ap product (c.loop-term.invariant ∙ ap (map as_term) all ∙ c.terms-term-items.ensures.terms) ∙ product-of_terms c.args.powers.now
+
+pub returns-clause-tidy : goal.returns-clause-tidy
+returns-clause-tidy c = λ n few below.
+    let ws = c.terms-term-items.result.now in
+    let past = c.loop-term-test.false in
+    let all : take c.loop-term.term-index ws ≡ ws = take_all c.loop-term.term-index ws (omega (arith, past)) in
+    let terms : map of_part c.loop-term.items.items ≡ c.args.powers.now.terms = c.loop-term.invariant ∙ ap (map as_term) all ∙ c.terms-term-items.ensures.terms in
+    subst AreTidyParts (sym c.from_vec.ensures.items)
+    (tidy_parts n c.loop-term.items.items few (subst (λ ts. IsTrue (is_normal ts)) (sym terms) c.args.powers.now.normal)
+    (named_below n c.loop-term.items.items (subst (All (λ (t : Term). atom_below n t.atom ≡ true)) (sym terms) (row_below n c.args.powers.now below))))
 
 pub returns-clause-named : goal.returns-clause-named
 returns-clause-named c = λ n below.

@@ -5,7 +5,8 @@ use Rattle.um_infer.specs.Answers.{scheme_trees}
 use Rattle.um_infer.proofs.SchemeLists.{item_or_last}
 use Rattle.um_check.specs.declared.certificate.Yes.{Yes}
 use Rattle.um_proof.specs.Proving.{IsYesOf}
-use Rattle.um_proof.specs.ProgramSteps.{AreYesOf, CarriesInSome}
+use Rattle.um_check.specs.Tidy.{IsTidyYes}
+use Rattle.um_proof.specs.ProgramSteps.{AreYesOf, AreTidyYes, CarriesInSome}
 use Rattle.um_proof.proofs.FunctionAnswers.{function_stops}
 use Rattle.um_proof.proofs.program.add_yes.Goals as goal
 
@@ -19,6 +20,12 @@ yes_more p schemes list c valid last = λ i f s d g h at. elim (item_or_last lis
       subst (λ (y : Yes). IsYesOf p schemes i f s y) w.1 (subst (λ n. IsYesOf p schemes n f s c) (sym q) (last f s (ap (slice_get p.functions) (sym q) ∙ g) (ap (slice_get schemes) (sym q) ∙ h)))
 ]
 
+tidy_more : (p : ProgramTree) (list : List Yes) (c : Yes) → AreTidyYes p list → ((f : FunctionTree) → slice_get p.functions (length list) ≡ Some f → IsTidyYes (length p.bases) f.units c) → AreTidyYes p (list ++ c ∷ [])
+tidy_more p list c tidy last = λ i f d g at. elim (item_or_last list c i d at) [
+  | inl there ↦ tidy i f d g there
+  | inr w ↦ let q : i ≡ length list = w.0 in subst (λ (y : Yes). IsTidyYes (length p.bases) f.units y) w.1 (last f (ap (slice_get p.functions) (sym q) ∙ g))
+]
+
 no_yes : (p : ProgramTree) (schemes : List SchemeTree) → AreYesOf p schemes []
 no_yes p schemes = λ i f s c e g at. absurd (cc at)
 
@@ -26,7 +33,7 @@ pub loop-i-init : goal.loop-i-init
 loop-i-init c =
     let p = program_tree c.args.shaped.now in
     let schemes = scheme_trees c.args.schemes.now in
-    record { count = ap length c.requires.empty; valid = subst (AreYesOf p schemes) (sym c.requires.empty) (no_yes p schemes) }
+    record { count = ap length c.requires.empty; valid = subst (AreYesOf p schemes) (sym c.requires.empty) (no_yes p schemes); tidy = subst (AreTidyYes p) (sym c.requires.empty) (λ i f c e at. absurd (cc at)) }
 
 pub yes_of-requires-clause-inside : goal.yes_of-requires-clause-inside
 yes_of-requires-clause-inside c = let l = c.loop-i-test.true in let n = c.requires.count in omega (arith, l, n)
@@ -45,6 +52,7 @@ loop-i-preserved c =
       count = ap length c.in_ok-push-in-Ok.ensures.items ∙ length_push list c.in-Ok.yes ∙ ap (λ k. k + 1) n;
       valid = subst (AreYesOf p schemes) (sym c.in_ok-push-in-Ok.ensures.items) (yes_more p schemes list c.in-Ok.yes c.loop-i.invariant.valid
           (λ f s e g. subst (λ k. IsYesOf p schemes k f s c.in-Ok.yes) (sym n) (c.in-Ok.ensures.valid f s (ap (slice_get p.functions) (sym n) ∙ e) (ap (slice_get schemes) (sym n) ∙ g))));
+      tidy = subst (AreTidyYes p) (sym c.in_ok-push-in-Ok.ensures.items) (tidy_more p list c.in-Ok.yes c.loop-i.invariant.tidy (λ f e. c.in-Ok.ensures.tidy f (ap (slice_get p.functions) (sym n) ∙ e)));
     }
 
 pub returns-clause-count : goal.returns-clause-count

@@ -31,3 +31,6 @@ refused_proofs-requires c = let w = rw c.in-Err-Units.field-0-is at c.in-Err-Uni
 
 pub refused_proofs-requires-in-Err-NotGeneral : goal.refused_proofs-requires-in-Err-NotGeneral
 refused_proofs-requires-in-Err-NotGeneral c = let w = rw c.in-Err-NotGeneral.field-0-is at c.in-Err-NotGeneral.ensures.inferred in (w.0, c.in-Err-NotGeneral.field-0-1, inr w.1)
+
+pub with_yes-requires-clause-tidy : goal.with_yes-requires-clause-tidy
+with_yes-requires-clause-tidy c = λ c e. absurd (cc e)

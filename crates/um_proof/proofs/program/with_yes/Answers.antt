@@ -5,7 +5,10 @@ use Rattle.um_proof.proofs.FunctionAnswers.{within_limits, some_stops}
 use Rattle.um_proof.proofs.program.with_yes.Goals as goal
 
 pub returns-in-Ok : goal.returns-in-Ok
-returns-in-Ok c = record { schemes = c.requires.before; count = c.in-Ok.ensures.count; yes = c.in-Ok.ensures.valid; no = c.requires.no }
+returns-in-Ok c = (
+  record { schemes = c.requires.before; count = c.in-Ok.ensures.count; yes = c.in-Ok.ensures.valid; no = c.requires.no },
+  record { yes = c.in-Ok.ensures.tidy; no = c.requires.tidy },
+)
 
 pub returns-in-Err : goal.returns-in-Err
 returns-in-Err c =

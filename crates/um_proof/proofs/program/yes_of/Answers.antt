@@ -1,8 +1,12 @@
 use Rattle.std.proofs.Common.{◌≡◌, ◌∙◌, Some, map, length, slice_get, refl, sym, ap, subst, arith}
+use Rattle.std.specs.Prelude.{All, IfOk}
 use Rattle.std.specs.Option.{option_map}
 use Rattle.std.proofs.lemmas.List.{length-map}
 use Rattle.std.proofs.lemmas.Option.{slice_get_read, slice_get-map}
 use Rattle.um_tree.specs.ProgramTree.{program_tree, scheme_tree}
+use Rattle.um_tree.specs.Formed.{BasesBelow}
+use Rattle.um_equal_types.specs.Steps.{units_of}
+use Rattle.um_check.specs.Tidy.{IsTidyYes}
 use Rattle.um_infer.specs.Answers.{scheme_trees}
 use Rattle.um_infer.proofs.SchemeLists.{item_at}
 use Rattle.um_rows.specs.Judgement.{has_scheme}
@@ -63,6 +67,13 @@ returns-clause-valid c = λ f s e at.
     (subst (λ t. IsYesMade (length p.bases) f.units r t c.make_yes-made.result) same
     (subst (λ n. IsYesMade n f.units r (scheme_tree c.index.result.now) c.make_yes-made.result) c.base_count-bases.ensures.count
     (subst (λ n. IsYesMade c.base_count-bases.result n r (scheme_tree c.index.result.now) c.make_yes-made.result) (c.unit_count-units.ensures f e) c.make_yes-made.ensures.made)))
+
+pub returns-clause-tidy : goal.returns-clause-tidy
+returns-clause-tidy c = λ f e.
+    let p = program_tree c.args.shaped.now in
+    subst (λ n. IfOk c.make_yes-made.result (IsTidyYes n f.units)) c.base_count-bases.ensures.count
+    (subst (λ n. IfOk c.make_yes-made.result (IsTidyYes c.base_count-bases.result n)) (c.unit_count-units.ensures f e)
+    (c.make_yes-made.ensures.tidy (subst (λ n. All (BasesBelow n) (units_of c.in_ok-equations.equations.list.items.items)) (sym c.base_count-bases.ensures.count) c.in_ok-equations.ensures.declared)))
 
 pub returns-clause-range : goal.returns-clause-range
 returns-clause-range c =

@@ -27,10 +27,8 @@ unreachable-requires c =
     never_made c.args.bases c.args.units r c.requires.rows made.0 c.requires.refused
     (subst (λ rs. IsReached (units_of rs) (first c.args.bases c.args.units r.slots) (length rs) made.0) c.deref.ensures.value made.1)
 
-pub returns-in-Err : goal.returns-in-Err
-returns-in-Err c =
+pub returns-in-Err-clause-made : goal.returns-in-Err-clause-made
+returns-in-Err-clause-made c =
     let r = c.args.rows.now in
-    record {
-      made = rows_pass c.args.bases c.args.units r c.requires.rows (judged c.args.bases c.args.units 0 r) c.in-Err.stop
-          (subst (λ rs. CarriesInRows (record { slots = r.slots; parameters = c.args.units; bases = c.args.bases }) rs c.in-Err.stop) c.deref.ensures.value c.in-Err.ensures);
-    }
+    rows_pass c.args.bases c.args.units r c.requires.rows (judged c.args.bases c.args.units 0 r) c.in-Err.stop
+    (subst (λ rs. CarriesInRows (record { slots = r.slots; parameters = c.args.units; bases = c.args.bases }) rs c.in-Err.stop) c.deref.ensures.value c.in-Err.ensures)

@@ -1,4 +1,4 @@
-use Rattle.std.proofs.Common.{suc, sym, ap, ◌∙◌, subst}
+use Rattle.std.proofs.Common.{suc, sym, ap, ◌∙◌, subst, arith}
 use Rattle.std.specs.Prelude.{All, IfOk, IfErr}
 use Rattle.std.proofs.lemmas.List.Elements.{All-take}
 use Rattle.um_units.specs.Variables.{VariablesBelow}
@@ -16,8 +16,13 @@ pub no_of-requires-clause-rows : goal.no_of-requires-clause-rows
 no_of-requires-clause-rows c =
     let by = refuted c.args.bases c.args.units c.args.rows.now c.requires.rows c.args.row c.args.refused c.requires.refused c.requires.judged in by.closed
 
-pub returns-then-units-eq0 : goal.returns-then-units-eq0
-returns-then-units-eq0 c =
+pub returns-then-units-eq0-clause-tidy : goal.returns-then-units-eq0-clause-tidy
+returns-then-units-eq0-clause-tidy c =
+    let by = refuted c.args.bases c.args.units c.args.rows.now c.requires.rows c.args.row c.args.refused c.requires.refused c.requires.judged in
+    c.no_of.ensures.tidy (suc c.args.row) (let l = c.requires.refused.1 in let n = c.requires.rows.number in omega (arith, l, n)) by.below
+
+pub returns-then-units-eq0-clause-made : goal.returns-then-units-eq0-clause-made
+returns-then-units-eq0-clause-made c =
     let f = c.no_of.ensures in
     own_answers c.args.bases c.args.units c.args.rows.now c.requires.rows c.args.row c.args.refused c.requires.refused c.requires.judged c.if-units-eq0.true c.no_of.result f.loose f.last f.modulus f.parts f.named f.memory
 
@@ -47,16 +52,21 @@ loose_no-requires-clause-refused c =
     let w = c.in-Ok-false.ensures.unsolved c.in-Ok-false.field-0-test in
     (w.0, w.1, ap (λ rs. solve 0 rs (own_variables c.args.rows.now.slots)) (ap (rows_up_to c.args.row) (c.deref-in-Ok-false.ensures.value ∙ sym c.deref.ensures.value) ∙ sym c.up_to.ensures) ∙ w.2)
 
-pub returns-in-Ok-true : goal.returns-in-Ok-true
-returns-in-Ok-true c =
+pub returns-in-Ok-true-clause-tidy : goal.returns-in-Ok-true-clause-tidy
+returns-in-Ok-true-clause-tidy c =
+    let by = refuted c.args.bases c.args.units c.args.rows.now c.requires.rows c.args.row c.args.refused c.requires.refused c.requires.judged in
+    c.no_of-in-Ok-true.ensures.tidy (suc c.args.row) (let l = c.requires.refused.1 in let n = c.requires.rows.number in omega (arith, l, n)) by.below
+
+pub returns-in-Ok-true-clause-made : goal.returns-in-Ok-true-clause-made
+returns-in-Ok-true-clause-made c =
     let r = c.args.rows.now in
     let w = c.in-Ok-true.ensures.solved c.in-Ok-true.field-0-test in
     let f = c.no_of-in-Ok-true.ensures in
     general_answers c.args.bases c.args.units r c.requires.rows c.args.row c.args.refused c.requires.refused c.requires.judged w.0
     (ap (λ rs. solve 0 rs (own_variables r.slots)) (sym (c.up_to.ensures ∙ ap (rows_up_to c.args.row) c.deref.ensures.value)) ∙ w.1) c.no_of-in-Ok-true.result f.loose f.last f.modulus f.parts f.named f.memory
 
-pub returns-in-Ok-false : goal.returns-in-Ok-false
-returns-in-Ok-false c =
+pub returns-in-Ok-false-clause-made : goal.returns-in-Ok-false-clause-made
+returns-in-Ok-false-clause-made c =
     let r = c.args.rows.now in
     let w = c.in-Ok-false.ensures.unsolved c.in-Ok-false.field-0-test in
     let f = c.loose_no.ensures in

@@ -22,4 +22,4 @@ returns-clause-solution c = λ order units h.
 
 pub returns-clause-back : goal.returns-clause-back
 returns-clause-back c = λ order units h.
-    c.in_ok-new_back.ensures order (numbered_places c.args.first order c.args.held.now units c.args.numbered.now.types.items.items c.deref-2.result.now h c.deref-2.ensures.value c.part_of-places.result.now c.part_of-places.ensures)
+    c.in_ok-new_back.ensures.back order (numbered_places c.args.first order c.args.held.now units c.args.numbered.now.types.items.items c.deref-2.result.now h c.deref-2.ensures.value c.part_of-places.result.now c.part_of-places.ensures)

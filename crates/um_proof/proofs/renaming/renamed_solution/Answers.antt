@@ -82,3 +82,5 @@ returns c =
     c.read_numbered-made.ensures.vars
     (c.read_numbered-made.ensures.solution order (map (replace (by_place order)) general) numbered)
     (subst (λ ks. IfOk result (λ (r : Renaming). GoBack order ks c.args.back.now r.back.items)) (c.deref-4.ensures.value ∙ held) (c.read_numbered-made.ensures.back order (map (replace (by_place order)) general) numbered))
+    c.read_numbered-made.ensures.count
+    (λ m declared. c.read_numbered-made.ensures.declared m declared)

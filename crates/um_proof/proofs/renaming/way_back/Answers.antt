@@ -1,9 +1,13 @@
 use Rattle.std.proofs.Common.{◌≡◌, ◌<◌, length, get_or, set, sym, ap, ◌∙◌, subst, arith}
-use Rattle.std.proofs.lemmas.List.{take_all, length-set, get_or_default}
+use Rattle.std.specs.Prelude.{All}
+use Rattle.std.proofs.lemmas.List.{take_all, length-set, length-replicate, get_or_default}
+use Rattle.std.proofs.lemmas.List.Elements.{All-nil, All-set, All-get_or, All-replicate}
 use Rattle.um_units.specs.declared.Atom.TheVariants.{Var}
-use Rattle.um_units.specs.PowerMap.{atom, nth}
+use Rattle.um_units.specs.PowerMap.{one, atom, nth}
+use Rattle.um_tree.specs.Formed.{BasesBelow}
 use Rattle.um_elim.specs.Numbering.{place}
 use Rattle.um_proof.specs.Renaming.{GoBack}
+use Rattle.um_proof.proofs.DeclaredUnits.{one_declared}
 use Rattle.um_proof.proofs.WayBackSteps.{goes_back_more, place_of, place_below}
 use Rattle.um_proof.proofs.renaming.way_back.Goals as goal
 
@@ -40,9 +44,21 @@ loop-i-preserved c =
       back = λ order h.
           goes_back_more order held c.args.back.now out c.set_unit.new.units.items i 0 c.number_of-number.result low h.listed
           (c.number_of-number.ensures (place order v) (place_of order held c.args.places.now i c.index-places-i.result h low c.index-places-i.is)) below made (c.loop-i.invariant.back order h);
+      declared = λ n all.
+          subst (All (BasesBelow n)) (sym made)
+          (All-set (BasesBelow n) out c.number_of-number.result (nth c.args.back.now v) (All-get_or (BasesBelow n) c.args.back.now v (atom (Var v)) inside all) (c.loop-i.invariant.declared n all));
     }
 
-pub returns : goal.returns
-returns c = λ order h.
+pub loop-i-init : goal.loop-i-init
+loop-i-init c =
+    let ones = c.in_ok-out.ensures in
+    record {
+      count = ap length ones ∙ length-replicate c.args.vars one;
+      back = λ order h. All-nil (λ k. nth c.in_ok-out.out.items (place order k) ≡ nth c.args.back.now k);
+      declared = λ n all. subst (All (BasesBelow n)) (sym ones) (All-replicate (BasesBelow n) c.args.vars one (one_declared n));
+    }
+
+pub returns-clause-back : goal.returns-clause-back
+returns-clause-back c = λ order h.
     let past = c.loop-i-test.false in
     subst (λ ks. GoBack order ks c.args.back.now c.loop-i.out.items) (take_all c.loop-i.i c.args.held.now (omega (arith, past))) (c.loop-i.invariant.back order h)

@@ -24,16 +24,14 @@ certificate-made-requires-clause-reached c =
 pub certificate-made-requires-clause-judged : goal.certificate-made-requires-clause-judged
 certificate-made-requires-clause-judged c = (c.requires.judged.0, scheme_tree c.args.scheme.now, c.requires.judged.1)
 
-pub returns-in-Ok-Made : goal.returns-in-Ok-Made
-returns-in-Ok-Made c = record { made = c.certificate-made.ensures c.requires.judged.0 (scheme_tree c.args.scheme.now) c.requires.judged.1 }
+pub returns-in-Ok-Made-clause-made : goal.returns-in-Ok-Made-clause-made
+returns-in-Ok-Made-clause-made c = c.certificate-made.ensures.made c.requires.judged.0 (scheme_tree c.args.scheme.now) c.requires.judged.1
 
-pub returns-in-Err : goal.returns-in-Err
-returns-in-Err c =
+pub returns-in-Err-clause-made : goal.returns-in-Err-clause-made
+returns-in-Err-clause-made c =
     let r = c.args.rows.now in
-    record {
-      made = rows_pass c.args.bases c.args.units r c.requires.rows (scheme_tree c.args.scheme.now) c.in-Err.stop
-          (subst (λ rs. CarriesInRows (record { slots = r.slots; parameters = c.args.units; bases = c.args.bases }) rs c.in-Err.stop) c.deref.ensures.value c.in-Err.ensures);
-    }
+    rows_pass c.args.bases c.args.units r c.requires.rows (scheme_tree c.args.scheme.now) c.in-Err.stop
+    (subst (λ rs. CarriesInRows (record { slots = r.slots; parameters = c.args.units; bases = c.args.bases }) rs c.in-Err.stop) c.deref.ensures.value c.in-Err.ensures)
 
 pub unreachable-requires : goal.unreachable-requires
 unreachable-requires c =

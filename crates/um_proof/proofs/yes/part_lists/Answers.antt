@@ -5,6 +5,7 @@ use Rattle.std.proofs.lemmas.List.Elements.{All-nil, All-cons, All-append, All-g
 use Rattle.um_units.specs.Variables.{VariablesBelow}
 use Rattle.um_check.specs.Combination.{NamesRowsBelow}
 use Rattle.um_check.specs.Existence.{exponents}
+use Rattle.um_check.specs.Tidy.{AreTidyParts}
 use Rattle.um_proof.proofs.yes.part_lists.Goals as goal
 
 pub loop-slot-preserved : goal.loop-slot-preserved
@@ -21,4 +22,8 @@ loop-slot-preserved c =
           subst (All (NamesRowsBelow n)) (sym c.in_ok-push.ensures.items)
           (All-append (NamesRowsBelow n) old (p ∷ []) (c.loop-slot.invariant.named n h)
           (All-cons (NamesRowsBelow n) p [] (c.in_ok-parts_of.ensures.named n (subst (VariablesBelow n) (sym c.slot-item.is) (All-get_or (VariablesBelow n) c.args.powers.now i c.slot-item.result low h))) (All-nil (NamesRowsBelow n))));
+      tidy = λ n few h.
+          subst (All AreTidyParts) (sym c.in_ok-push.ensures.items)
+          (All-append AreTidyParts old (p ∷ []) (c.loop-slot.invariant.tidy n few h)
+          (All-cons AreTidyParts p [] (c.in_ok-parts_of.ensures.tidy n few (subst (VariablesBelow n) (sym c.slot-item.is) (All-get_or (VariablesBelow n) c.args.powers.now i c.slot-item.result low h))) (All-nil AreTidyParts)));
     }

@@ -1,0 +1,6 @@
+mod Cuts
+mod Names
+mod UnitTexts
+mod Lines
+mod Certificates
+mod Made

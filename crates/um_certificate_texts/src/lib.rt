@@ -1,0 +1,8 @@
+//! Texts of certificates: each is of one certificate.
+//!
+//! ```
+//! laws::certificate_texts(); // certificates that are printed alike are the same
+//! ```
+#![tactic(auto)]
+
+pub mod laws;
