@@ -1,5 +1,5 @@
 -- The order that words name has an answer.
-use Rattle.std.proofs.Common.{◌≡◌, ◌⊎◌, inl, inr, ℕ, ◌<◌, All, List, [], codes, MatchOption, Option, Some, None, IsTrue, refl, sym, subst, arith}
+use Rattle.std.proofs.Common.{◌≡◌, ◌⊎◌, inl, inr, ℕ, ◌<◌, All, List, [], codes, MatchOption, Option, Some, None, refl, sym, subst, arith}
 use Rattle.um_display.specs.UnitWords.{PartSyntax, IsUnitWord}
 use Rattle.um_orders.specs.declared.order.Order.{Order}
 use Rattle.um_orders.specs.declared.order.Order.TheVariants.{Types, Explain, Annot, Code, Fmt, Tidy, Run, Steps, Eval, Trace, Show, Conform, Rescale, Twin, Big, Prove, Image, Exec, Calls}

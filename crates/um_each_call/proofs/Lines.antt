@@ -1,6 +1,6 @@
 -- The calls of a source have answers, line by line.
 use Rattle.std.proofs.Common.{inl, inr, ℕ, nat_le, List, [], ◌∷◌, ◌++◌, codes, length, refl, sym, ◌∙◌, arith}
-use Rattle.std.specs.Str.{IsUtf8, is_utf8}
+use Rattle.std.specs.Str.{is_utf8}
 use Rattle.std.proofs.lemmas.Str.{IsUtf8-from_is_utf8, is_utf8-from_IsUtf8}
 use Rattle.um_syntax.specs.Laws.{EachTextIsAnswered}
 use Rattle.um_shape.specs.Laws.{FaultlessIsShaped}

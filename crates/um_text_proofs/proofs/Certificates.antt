@@ -1,5 +1,5 @@
 -- Rows that are judged to have a scheme have a valid and tidy certificate of it, unless a number passes.
-use Rattle.std.proofs.Common.{◌≡◌, ◌≢◌, ◌⊎◌, inl, inr, ℕ, zero, suc, ◌+◌, ◌-◌, ◌<◌, ◌≤◌, ◌^◌, true, false, cond, List, [], ◌∷◌, ◌++◌, map, length, get_or, ℤ, pos, Result, Ok, Err, refl, sym, ap, ◌∙◌, subst, arith, length-append}
+use Rattle.std.proofs.Common.{◌≡◌, ◌≢◌, ◌⊎◌, inl, inr, ℕ, zero, suc, ◌+◌, ◌-◌, ◌<◌, ◌≤◌, true, false, cond, List, [], ◌∷◌, ◌++◌, map, length, get_or, ℤ, pos, Result, Ok, Err, refl, sym, ap, ◌∙◌, subst, arith, length-append}
 use Rattle.std.specs.Prelude.{All, IsTrue, IfOk, nat_eq, slice_index_or}
 use Rattle.std.specs.List.{range_with_len}
 use Rattle.std.proofs.lemmas.Bool.{and_parts, ltb-true}
@@ -51,7 +51,7 @@ use Rattle.um_proof.proofs.Renamed.{are_numbered}
 use Rattle.um_proof.proofs.TidyYes.{tidy_yes}
 use Rattle.um_proof.proofs.ValidYes.{head, valid_yes, end_passes}
 use Rattle.um_text_proofs.proofs.Narrow.{IsPastAmong, AreNarrow, all_narrow_or_past}
-use Rattle.um_text_proofs.proofs.Rows.{IsAfter, Passes, Ends, rows_end}
+use Rattle.um_text_proofs.proofs.Rows.{Passes, Ends, rows_end}
 use Rattle.um_each_answer.proofs.Values.{kept_items}
 
 -- ---- parts of which the powers are given

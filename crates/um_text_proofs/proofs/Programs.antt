@@ -1,6 +1,6 @@
 -- A formed program with its shapes has its certificates, or a number passes in making them.
-use Rattle.std.proofs.Common.{◌≡◌, ◌≢◌, ◌⊎◌, inl, inr, ℕ, zero, suc, ◌+◌, ◌<◌, ◌≤◌, ◌^◌, true, false, List, [], ◌∷◌, ◌++◌, map, length, slice_get, ℤ, Option, Some, None, Result, Ok, Err, refl, sym, ap, ◌∙◌, subst, arith, length-append}
-use Rattle.std.specs.Prelude.{All, IfOk, IfErr}
+use Rattle.std.proofs.Common.{◌≡◌, ◌≢◌, ◌⊎◌, inl, inr, ℕ, zero, suc, ◌+◌, ◌<◌, ◌≤◌, ◌^◌, List, [], ◌∷◌, ◌++◌, map, length, slice_get, ℤ, Option, Some, None, Result, Ok, Err, refl, sym, ap, ◌∙◌, subst, arith, length-append}
+use Rattle.std.specs.Prelude.{All, IfOk}
 use Rattle.std.proofs.lemmas.List.{length-map}
 use Rattle.std.proofs.lemmas.Option.{slice_get_within}
 use Rattle.um_units.specs.PowerMap.{PowerMap, nth}
@@ -19,12 +19,10 @@ use Rattle.um_equal_types.specs.declared.row.Row.{Row}
 use Rattle.um_equal_types.specs.declared.row.Rows.{Rows}
 use Rattle.um_equal_types.specs.Steps.{rows_of, units_of, first_past}
 use Rattle.um_rows.specs.Equations.{slot_equations}
-use Rattle.um_rows.specs.Solutions.{slot_signature}
 use Rattle.um_rows.specs.Answers.{rows_signature, AreEquations}
 use Rattle.um_rows.specs.Generalised.{generalised_unit, generalised}
-use Rattle.um_rows.specs.Judgement.{Judgement, has_scheme, has_no_typing, not_general, numbered_scheme}
+use Rattle.um_rows.specs.Judgement.{has_scheme, numbered_scheme}
 use Rattle.um_infer.specs.Inference.{Inference, all_schemes, stops_at_slots, stops_at_range, stops_at_units, stops_at_not_general, infer, infer_first}
-use Rattle.um_infer.specs.Answers.{scheme_trees}
 use Rattle.um_infer.proofs.SchemeLists.{item_at, item_or_last}
 use Rattle.um_infer.proofs.InferenceLaws.{first_are_principal}
 use Rattle.um_infer.proofs.SchemeJudgements.{HasJudgement, schemes_until, scheme_judgement, yes_judged}
@@ -39,13 +37,13 @@ use Rattle.um_proof.specs.declared.stop.ProveStop.{ProveStop}
 use Rattle.um_proof.specs.declared.stop.ProveStop.TheVariants as prove
 use Rattle.um_proof.specs.Answers.{AreFunctionRows, judged, IsYesMade, IsNoMade}
 use Rattle.um_proof.specs.Proving.{IsYesOf, IsRefusal, IsWithinLimits, PassesInFunction, AreProofs, AreTidyProofs, IsProved}
-use Rattle.um_proof.specs.ProgramSteps.{HaveInferred, IsFirstRefused, AreYesOf, AreTidyYes}
+use Rattle.um_proof.specs.ProgramSteps.{IsFirstRefused, AreYesOf, AreTidyYes}
 use Rattle.um_proof.proofs.FunctionRows.{are_function_rows}
 use Rattle.um_proof.proofs.FunctionAnswers.{same_item, yes_valid, yes_range, refused_function, refused_inside, refused_judgement, no_refused, no_valid, no_range, within_limits, refused_within}
 use Rattle.um_proof.proofs.Judged.{judged_solved}
 use Rattle.um_each_answer.proofs.Values.{kept_items, kept_type, kept_is, kept_are, kept_types}
-use Rattle.um_text_proofs.proofs.Certificates.{IsCertified, certified}
-use Rattle.um_text_proofs.proofs.Refusals.{IsRefuted, refuted_or_passes}
+use Rattle.um_text_proofs.proofs.Certificates.{certified}
+use Rattle.um_text_proofs.proofs.Refusals.{refuted_or_passes}
 
 noted_count : (holes names : ℕ → PowerMap) (n : ℕ) (ms : List NoteTree) → length (noted_types holes names n ms) ≡ length ms
 noted_count holes names n [] = refl

@@ -1,22 +1,22 @@
 -- Rows that are judged to be refused have a valid and tidy certificate of it, unless a number passes.
-use Rattle.std.proofs.Common.{◌≡◌, ◌≢◌, ◌⊎◌, inl, inr, ℕ, zero, suc, ◌+◌, ◌<◌, ◌≤◌, true, false, List, [], ◌∷◌, length, map, ℤ, pos, ◌*ℤ◌, nat_abs, Result, Ok, Err, refl, sym, ap, ◌∙◌, subst, arith}
+use Rattle.std.proofs.Common.{◌≡◌, ◌≢◌, ◌⊎◌, inl, inr, ℕ, zero, suc, ◌+◌, ◌<◌, true, false, List, length, ℤ, pos, ◌*ℤ◌, nat_abs, Result, Ok, Err, refl, ap, ◌∙◌, subst, arith}
 use Rattle.std.specs.Prelude.{All, IfOk}
 use Rattle.std.proofs.lemmas.Bool.{cases_lt}
 use Rattle.std.proofs.lemmas.List.{length-map}
-use Rattle.um_units.specs.declared.Atom.TheVariants.{Base, Var}
+use Rattle.um_units.specs.declared.Atom.TheVariants.{Base}
 use Rattle.um_units.specs.PowerMap.{PowerMap, power_of}
 use Rattle.um_units.specs.Variables.{VariablesBelow}
 use Rattle.um_units.proofs.Integers.{zero_cases}
 use Rattle.um_elim.specs.declared.elim_step.ElimStep.{ElimStep}
-use Rattle.um_elim.specs.EliminationSteps.{unit_after, AreStepsOf, IsClosedLeft, IsStuck, IsRefusedBySteps}
+use Rattle.um_elim.specs.EliminationSteps.{unit_after, IsClosedLeft, IsStuck}
 use Rattle.um_elim.specs.Solution.{own_variables, rigid_units}
 use Rattle.um_elim.proofs.Slots.{rigid-own}
 use Rattle.um_equal_types.specs.declared.row.Rows.{Rows}
 use Rattle.um_equal_types.specs.declared.row.Row.{Row}
 use Rattle.um_equal_types.specs.Steps.{units_of}
 use Rattle.um_rows.specs.Answers.{rows_signature}
-use Rattle.um_rows.specs.FirstUnsolvable.{Solving, solved, unsolved, solve, rows_up_to}
-use Rattle.um_rows.specs.Judgement.{Judgement, has_no_typing, not_general}
+use Rattle.um_rows.specs.FirstUnsolvable.{solved, unsolved, solve, rows_up_to}
+use Rattle.um_rows.specs.Judgement.{Judgement}
 use Rattle.um_check.specs.declared.certificate.No.{No}
 use Rattle.um_check.specs.Tidy.{IsTidyNo}
 use Rattle.um_kept.specs.declared.kept.Head.{Head}
@@ -24,7 +24,7 @@ use Rattle.um_kept.specs.declared.row.Refused.{Refused}
 use Rattle.um_kept.specs.declared.stop.CertStop.{CertStop}
 use Rattle.um_kept.specs.declared.stop.CertStop.TheVariants as stop
 use Rattle.um_kept.specs.Kept.{Kept, row_unit, row_total, first}
-use Rattle.um_kept.specs.Formed.{HasLeastBase, IsModulus, IsNumber, PassesInRow, PassesInRows}
+use Rattle.um_kept.specs.Formed.{HasLeastBase, IsModulus, IsNumber, PassesInRow}
 use Rattle.um_kept.specs.Answers.{IsRefusedAs, AreRefused}
 use Rattle.um_proof.specs.Answers.{AreFunctionRows, judged, IsRefused, IsNoMade}
 use Rattle.um_proof.proofs.Judged.{judged_refused, front_inside, front_unsolved, rows_low}

@@ -1,5 +1,5 @@
 -- Each text has an answer of `prove`.
-use Rattle.std.proofs.Common.{◌≡◌, ◌≢◌, ◌⊎◌, inl, inr, ℕ, List, ◌++◌, codes, Some, slice_get, Result, Ok, Err, refl}
+use Rattle.std.proofs.Common.{◌≢◌, ◌⊎◌, inl, inr, ℕ, List, ◌++◌, codes, Result, Ok, Err, refl}
 use Rattle.std.specs.Fmt.{signed_decimal}
 use Rattle.um_tree.specs.ProgramTree.{FunctionTree, ProgramTree}
 use Rattle.um_tree.specs.Formed.{IsFormed}
@@ -12,7 +12,6 @@ use Rattle.um_proof.specs.declared.stop.ProveStop.{ProveStop}
 use Rattle.um_proof.specs.declared.stop.ProveStop.TheVariants as prove
 use Rattle.um_proof.specs.Proving.{IsProved}
 use Rattle.um_certificates.specs.CertificateText.{certificates_text}
-use Rattle.um_reports.specs.declared.status.Status.{Status}
 use Rattle.um_reports.specs.declared.status.Status.TheVariants.{Done, PowerRange, Limit, CertRange}
 use Rattle.um_reports.specs.Refusals.{placed, limit_label, range_label}
 use Rattle.um_reports.specs.Steps.{line}
@@ -25,7 +24,7 @@ use Rattle.um_each_answer.specs.Answered.{HasAnswer}
 use Rattle.um_each_answer.specs.Laws.{EachTextHasStages}
 use Rattle.um_each_answer.proofs.Answers.{Told}
 use Rattle.um_text_proofs.specs.Laws.{EachTextIsProved}
-use Rattle.um_text_proofs.proofs.Programs.{HasProofs, has_proofs}
+use Rattle.um_text_proofs.proofs.Programs.{has_proofs}
 
 module _ (slots : SlotStopsAreExact) (ranges : RangeStopsAreExact) (bytes : List ℕ) (p : ProgramTree) where
   result_told : (r : Result Proofs ProveStop) → r ≢ Err prove.NoMemory → IsProved p r → Told (IsProofReply bytes p r)
