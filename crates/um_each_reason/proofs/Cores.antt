@@ -4,6 +4,7 @@ use Rattle.std.proofs.Common.{◌≡◌, ◌⊎◌, inl, inr, ℕ, zero, suc, �
 use Rattle.std.specs.Prelude.{All, slice_index_or}
 use Rattle.std.proofs.lemmas.List.{append-nil, take_all, length-append}
 use Rattle.std.proofs.lemmas.List.Elements.{All-nil, All-cons, All-head, All-tail}
+use Rattle.um_units.specs.declared.Atom.TheVariants.{Var}
 use Rattle.um_units.specs.PowerMap.{PowerMap, one, nth}
 use Rattle.um_units.specs.Variables.{VariablesBelow}
 use Rattle.um_units.specs.Solutions.{IsSolvable}
@@ -19,7 +20,7 @@ use Rattle.um_each_reason.proofs.WideRows.{rows_are_decided}
 -- ---- what holds of rows holds of those that are picked
 
 one_below : (slots : ℕ) → VariablesBelow slots one
-one_below slots k held = absurd (held (power_of-one _))
+one_below slots k held = absurd (held (power_of-one (Var k)))
 
 module _ (slots : ℕ) where
   abbrev Below : PowerMap → Type 0
@@ -103,19 +104,19 @@ module _ (slots bases parameters : ℕ) (rows : List Row) (few : parameters ≤ 
   abbrev last : ℕ
   last = length units - 1
 
-  module _ (further : List ℕ) (g : IsGrown slots given units (last ∷ []) further) (few : length (last ∷ further) ≤ 17) where
+  module _ (further : List ℕ) (g : IsGrown slots given units (last ∷ []) further) (short : length (last ∷ further) ≤ 17) where
     unsolvable_core : (With (last ∷ further) 0 → ⊥) → HasCore
     unsolvable_core none = (
       last ∷ further,
       false,
-      record { begun = record { further = further; begins = refl; grown = g }; few = few; ends = λ solvable. none (with_none (last ∷ further) solvable) },
+      record { begun = record { further = further; begins = refl; grown = g }; few = short; ends = λ solvable. none (with_none (last ∷ further) solvable) },
     )
 
     cut_core : length (last ∷ further) ≡ 17 → With (last ∷ further) 0 → HasCore
     cut_core many solvable = (
       last ∷ further,
       true,
-      record { begun = record { further = further; begins = refl; grown = g }; few = few; ends = (many, alone (last ∷ further) solvable) },
+      record { begun = record { further = further; begins = refl; grown = g }; few = short; ends = (many, alone (last ∷ further) solvable) },
     )
 
   -- so many rows may still come
