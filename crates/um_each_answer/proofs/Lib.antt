@@ -1,3 +1,7 @@
-mod Texts
-mod Stages
+pub mod Texts
+pub mod Stages
+pub mod Sizes
+pub mod Values
+pub mod Signatures
 pub mod Answers
+mod Conforming

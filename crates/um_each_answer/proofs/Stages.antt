@@ -1,4 +1,4 @@
--- The stages of a text: each has its value, or a fault that is told.
+-- The stages of a text: each has its value, or a fault that is told. Published: crates above use it.
 use Rattle.std.proofs.Common.{◌≡◌, ◌⊎◌, ℕ, List, codes, Option, Some, None, Result, Ok, Err, refl, sym, ap, subst, inl, inr}
 use Rattle.um_tree.specs.RawTree.{DeclSyntax}
 use Rattle.um_types.specs.declared.parse.LimitKind.TheVariants as limit
@@ -18,7 +18,7 @@ use Rattle.um_front.specs.Refused.{IsUnshaped, IsUnchecked, IsUntypedReply}
 use Rattle.um_each_answer.specs.Answered.{HasAnswer, IsReadOrRefused}
 
 -- the value of a stage, or a refusal
-abbrev Either : {A : Type 0} → (List ℕ → A → Type 0) → (List ℕ → List ℕ → Status → Type 0) → List ℕ → Type 0
+abbrev pub Either : {A : Type 0} → (List ℕ → A → Type 0) → (List ℕ → List ℕ → Status → Type 0) → List ℕ → Type 0
 Either {A} Is IsNot bytes = ((x : A) × Is bytes x) ⊎ HasAnswer IsNot bytes
 
 module _ (bytes : List ℕ) where

@@ -1,4 +1,4 @@
--- Bytes are read, or refused.
+-- Bytes are read, or refused. Published: crates above use it.
 use Rattle.std.proofs.Common.{◌≡◌, ◌⊎◌, ℕ, zero, suc, ◌<◌, ◌≤◌, nat_le, Bool, true, false, List, [], ◌∷◌, ◌++◌, length, take, codes, chars, Ok, Err, refl, sym, subst, inl, inr, arith}
 use Rattle.std.specs.Str.{IsUtf8, IsValidUpTo, is_utf8}
 use Rattle.std.proofs.lemmas.Str.{IsUtf8-nil, IsUtf8-from_is_utf8, is_utf8-from_IsUtf8}
@@ -15,20 +15,21 @@ use Rattle.um_syntax.specs.Feeding.{IsTextAnswer}
 use Rattle.um_types.specs.declared.parse.ParseStop.{ParseStop}
 use Rattle.um_types.specs.declared.parse.ParseStop.TheVariants as parse_stop
 use Rattle.um_parse.specs.Parsed.{Parsed}
+use Rattle.um_parse.specs.Laws.{AreReadOrRefused, EachListIsAnswered}
 use Rattle.um_reports.specs.declared.status.Status.TheVariants.{TooLong, Utf8, Lexical, Syntax, Limit}
 use Rattle.um_reports.specs.Steps.{line}
 use Rattle.um_reports.specs.Refusals.{placed, limit_label}
 use Rattle.um_front.specs.Refused.{IsUnread}
-use Rattle.um_each_answer.specs.Answered.{HasAnswer, IsReadOrRefused, AreReadOrRefused}
-use Rattle.um_each_answer.specs.Laws.{BytesAreReadOrRefused}
+use Rattle.um_each_answer.specs.Answered.{HasAnswer, IsReadOrRefused}
+use Rattle.um_each_answer.specs.Laws.{EachTextIsReadOrRefused}
 
-on_test : (b : Bool) {P : Type 0} → (b ≡ true → P) → (b ≡ false → P) → P
+pub on_test : (b : Bool) {P : Type 0} → (b ≡ true → P) → (b ≡ false → P) → P
 on_test b {P} then other = elim b as (λ v. b ≡ v → P) [ true ↦ then | false ↦ other ] refl
 
-within : (a b : ℕ) → nat_le a b ≡ true → a ≤ b
+pub within : (a b : ℕ) → nat_le a b ≡ true → a ≤ b
 within a b t = grind (arith, nat_tests)
 
-beyond : (a b : ℕ) → nat_le a b ≡ false → b < a
+pub beyond : (a b : ℕ) → nat_le a b ≡ false → b < a
 beyond a b t = grind (arith, nat_tests)
 
 -- ---- bytes that aren't UTF-8 have a longest front that is
@@ -50,7 +51,7 @@ module _ (bytes : List ℕ) where
   valid_up_to t = last_valid (length bytes) (omega arith) (λ m more valid. cc (sym (is_utf8-from_IsUtf8 bytes (subst IsUtf8 (take_all m bytes more) valid)), t))
 
 -- ---- a fault of a text is one of its characters
-no_memory : (before : List Token) (at : ℕ) (cs : List ℕ) (tokens : List Token) → Refuses before at cs tokens lex.NoMemory → ⊥
+pub no_memory : (before : List Token) (at : ℕ) (cs : List ℕ) (tokens : List Token) → Refuses before at cs tokens lex.NoMemory → ⊥
 no_memory before at cs [] (gap, rest, cut, is, faulty) = faulty
 no_memory before at cs (token ∷ tokens) (more, next, refuses) = no_memory (before ++ token ∷ []) token.end more tokens refuses
 
@@ -80,8 +81,8 @@ module _ (bytes : List ℕ) (short : length bytes ≤ 1048576) where
   of_tokens tokens lexed (inl (raw, read)) = inl (raw, record { short = short; tokens = tokens; lexed = lexed; read = read })
   of_tokens tokens lexed (inr (stop, some, is)) = inr (unparsed tokens lexed stop some is)
 
-  of_chars : IsUtf8 bytes → ((tokens : List Token) → IsTextAnswer bytes (Ok tokens) → AreReadOrRefused tokens (length bytes)) → ((tokens : List Token) × HasTokens (chars bytes) tokens) ⊎ ((stop : LexStop) × HasFault (chars bytes) stop) → IsReadOrRefused bytes
-  of_chars valid parsed (inl (tokens, has)) = of_tokens tokens (valid, has) (parsed tokens (valid, has))
+  of_chars : IsUtf8 bytes → EachListIsAnswered → ((tokens : List Token) × HasTokens (chars bytes) tokens) ⊎ ((stop : LexStop) × HasFault (chars bytes) stop) → IsReadOrRefused bytes
+  of_chars valid parsed (inl (tokens, has)) = of_tokens tokens (valid, has) (parsed tokens (length bytes))
   of_chars valid parsed (inr (stop, fault)) = inr (faulty stop valid fault)
 
 -- ---- and to all
@@ -89,8 +90,8 @@ too_long : (bytes : List ℕ) → 1048576 < length bytes → IsReadOrRefused byt
 unfolding IsUnread
 too_long bytes long = inr (line (codes "error 2: text too long"), TooLong, inl (long, (refl, refl)))
 
-pub bytes_are_read_or_refused : EachTextIsAnswered → BytesAreReadOrRefused
-bytes_are_read_or_refused each bytes parsed =
+pub each_is_read_or_refused : EachTextIsAnswered → EachListIsAnswered → EachTextIsReadOrRefused
+each_is_read_or_refused each parsed bytes =
     on_test (nat_le (length bytes) 1048576)
     (λ fits.
     let short = within (length bytes) 1048576 fits in

@@ -1,11 +1,7 @@
 -- That there is an answer. Want of memory is none.
 -- Source: this project's own.
-use Rattle.std.specs.Prelude.{ℕ, ◌⊎◌, ◌≢◌, List, Err}
-use Rattle.um_syntax.specs.declared.token.Token.{Token}
+use Rattle.std.specs.Prelude.{ℕ, ◌⊎◌, List}
 use Rattle.um_tree.specs.RawTree.{DeclSyntax}
-use Rattle.um_types.specs.declared.parse.ParseStop.{ParseStop}
-use Rattle.um_types.specs.declared.parse.ParseStop.TheVariants.{NoMemory}
-use Rattle.um_parse.specs.Parsed.{IsRead, Parsed}
 use Rattle.um_reports.specs.declared.status.Status.{Status}
 use Rattle.um_front.specs.Stages.{IsReadText}
 use Rattle.um_front.specs.Refused.{IsUnread}
@@ -17,9 +13,3 @@ HasAnswer Answers bytes = (text : List ℕ) × (status : Status) × Answers byte
 -- the bytes are read as a program within the limits, or there is a refusal of them
 abbrev pub IsReadOrRefused : List ℕ → Type 0
 IsReadOrRefused bytes = ((raw : List DeclSyntax) × IsReadText bytes raw) ⊎ HasAnswer IsUnread bytes
-
--- the tokens are a program within the limits, or there is a refusal of them
-abbrev pub AreReadOrRefused : List Token → ℕ → Type 0
-AreReadOrRefused tokens end =
-    ((raw : List DeclSyntax) × IsRead tokens raw)
-    ⊎ ((stop : ParseStop) × (stop ≢ NoMemory) × Parsed tokens end (Err stop))

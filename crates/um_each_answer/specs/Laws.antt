@@ -1,8 +1,7 @@
--- Each text that is read has an answer.
+-- Each text has an answer of each of these commands.
 -- Source: this project's own.
-use Rattle.std.specs.Prelude.{ℕ, ◌⊎◌, List, length, Ok}
-use Rattle.um_syntax.specs.declared.token.Token.{Token}
-use Rattle.um_syntax.specs.Feeding.{IsTextAnswer}
+use Rattle.std.specs.Prelude.{ℕ, ◌≤◌, ◌⊎◌, IsTrue, List, length}
+use Rattle.um_sizes.specs.ScaleWords.{is_scales}
 use Rattle.um_front.specs.Stages.{ShapedTree, IsShapedText, CheckedTree, IsCheckedText}
 use Rattle.um_front.specs.Refused.{IsUnshaped, IsUnchecked}
 use Rattle.um_answers.specs.TypesAnswer.{TypesAnswer}
@@ -10,26 +9,33 @@ use Rattle.um_answers.specs.AnnotAnswer.{AnnotAnswer}
 use Rattle.um_answers.specs.CodeAnswer.{CodeAnswer}
 use Rattle.um_answers.specs.FmtAnswer.{FmtAnswer}
 use Rattle.um_answers.specs.TidyAnswer.{TidyAnswer}
-use Rattle.um_each_answer.specs.Answered.{HasAnswer, IsReadOrRefused, AreReadOrRefused}
+use Rattle.um_answers.specs.ConformAnswer.{ConformAnswer}
+use Rattle.um_answers.specs.RescaleAnswer.{RescaleAnswer}
+use Rattle.um_each_answer.specs.Answered.{HasAnswer, IsReadOrRefused}
 
--- Bytes are read or refused, if their tokens are, if they have some.
-abbrev pub BytesAreReadOrRefused : Type 0
-BytesAreReadOrRefused =
+-- Bytes are read or refused.
+abbrev pub EachTextIsReadOrRefused : Type 0
+EachTextIsReadOrRefused = (bytes : List ℕ) → IsReadOrRefused bytes
+
+-- They are a program with its shapes, or there is a refusal; and the functions of this program have schemes, or there
+-- is a refusal.
+abbrev pub EachTextHasStages : Type 0
+EachTextHasStages =
     (bytes : List ℕ) →
-    ((tokens : List Token) → IsTextAnswer bytes (Ok tokens) → AreReadOrRefused tokens (length bytes)) →
-    IsReadOrRefused bytes
-
--- Bytes that are read or refused have their shapes, or there is a refusal; and the functions of their program have
--- schemes, or there is a refusal.
-abbrev pub TextsHaveStages : Type 0
-TextsHaveStages =
-    (bytes : List ℕ) → IsReadOrRefused bytes →
     (((s : ShapedTree) × IsShapedText bytes s) ⊎ HasAnswer IsUnshaped bytes)
     × (((c : CheckedTree) × IsCheckedText bytes c) ⊎ HasAnswer IsUnchecked bytes)
 
 -- So there is an answer of each of these commands.
-abbrev pub CommandsHaveAnswers : Type 0
-CommandsHaveAnswers =
-    (bytes : List ℕ) → IsReadOrRefused bytes →
+abbrev pub EachTextHasAnswers : Type 0
+EachTextHasAnswers =
+    (bytes : List ℕ) →
     HasAnswer TypesAnswer bytes × HasAnswer AnnotAnswer bytes × HasAnswer CodeAnswer bytes
     × HasAnswer FmtAnswer bytes × HasAnswer TidyAnswer bytes
+
+-- And of `rescale`, if its word states sizes.
+abbrev pub EachTextIsRescaled : Type 0
+EachTextIsRescaled = (word bytes : List ℕ) → IsTrue (is_scales word) → HasAnswer (RescaleAnswer word) bytes
+
+-- And of `conform`, if the text of its signature isn't too long.
+abbrev pub EachTextIsConformed : Type 0
+EachTextIsConformed = (name word bytes : List ℕ) → length word ≤ 1048576 → HasAnswer (ConformAnswer name word) bytes

@@ -1,14 +1,18 @@
 //! The law that answers exist. A call does nothing: what it ensures is the law.
-ghost use Rattle.um_each_answer.specs.Laws.{BytesAreReadOrRefused, TextsHaveStages, CommandsHaveAnswers};
+ghost use Rattle.um_each_answer.specs.Laws.{EachTextIsReadOrRefused, EachTextHasStages, EachTextHasAnswers};
+ghost use Rattle.um_each_answer.specs.Laws.{EachTextIsRescaled, EachTextIsConformed};
 
-/// Bytes are read as a program within the limits, or refused, if the same holds of the tokens that they have. Then the
-/// program has its shapes and its schemes, or there is a refusal. So `types`, `annot`, `code`, `fmt` and `tidy` have an
-/// answer other than want of memory.
+/// Each text is read as a program within the limits, or refused. Then the program has its shapes and its schemes, or
+/// there is a refusal. So `types`, `annot`, `code`, `fmt` and `tidy` have an answer other than want of memory, and so
+/// has `rescale`, if its word states sizes, and `conform`, if its signature isn't too long.
 pub fn answers_exist()
-    ensures bytes { BytesAreReadOrRefused }
-    ensures stages { TextsHaveStages }
-    ensures commands { CommandsHaveAnswers }
+    ensures bytes { EachTextIsReadOrRefused }
+    ensures stages { EachTextHasStages }
+    ensures commands { EachTextHasAnswers }
+    ensures rescaled { EachTextIsRescaled }
+    ensures conformed { EachTextIsConformed }
 {
     um_syntax::laws::each_text_is_answered();
+    um_parse::laws::each_list_is_answered();
     um_infer::laws::stops();
 }

@@ -1,7 +1,7 @@
-//! Each text that is read has an answer.
+//! Each text has an answer.
 //!
 //! ```
-//! laws::answers_exist(); // a text that is read has an answer of each command
+//! laws::answers_exist(); // each text has an answer of these commands
 //! ```
 #![tactic(auto)]
 

@@ -1,0 +1,3 @@
+mod Expected
+mod Explained
+mod Orders

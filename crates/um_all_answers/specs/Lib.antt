@@ -1,0 +1,2 @@
+-- What a reader must trust: that all words and bytes have an answer.
+pub mod Laws

@@ -1,0 +1,9 @@
+mod Arguments
+mod Named
+mod Steps
+mod Outcomes
+mod Calls
+mod Twins
+mod UnitWords
+mod Lines
+mod Images

@@ -1,0 +1,3 @@
+mod WideRows
+mod Cores
+mod Reasons

@@ -1,0 +1,6 @@
+mod Items
+mod Powers
+mod Bodies
+mod Operands
+mod Numbers
+mod Written

@@ -1,0 +1,6 @@
+mod Narrow
+mod Rows
+mod Certificates
+mod Refusals
+mod Programs
+mod Texts
