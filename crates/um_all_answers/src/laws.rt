@@ -6,7 +6,7 @@ pub fn each_is_answered()
     ensures { EachIsAnswered }
 {
     um_parse::laws::each_list_is_answered();
-    um_shape::laws::shapes_of_programs();
+    um_shape::shapes_of_programs();
     um_infer::laws::stops();
     um_each_reason::laws::refusals_have_reasons();
     um_each_answer::laws::answers_exist();

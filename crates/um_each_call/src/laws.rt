@@ -18,12 +18,12 @@ pub fn calls_are_answered()
 {
     um_syntax::laws::each_text_is_answered();
     um_each_answer::laws::answers_exist();
-    um_shape::laws::shapes_of_programs();
-    um_gen::laws::runs_of_code();
+    um_shape::shapes_of_programs();
+    um_gen::runs_of_code();
     um_scale::laws::rescaled_programs();
     um_trace::laws::traces();
     um_image::bytes_of_images();
     um_each_image::laws::images_are_answered();
-    um_verify::laws::runs_of_verified_images();
+    um_verify::runs_of_verified_images();
     um_run::laws::image_calls();
 }

@@ -5,7 +5,7 @@ ghost use Rattle.um_text_images.specs.Laws.{EachTextHasImage};
 pub fn images_are_written()
     ensures { EachTextHasImage }
 {
-    um_shape::laws::shapes_of_programs();
+    um_shape::shapes_of_programs();
     um_image::image_of_generated_code();
     um_each_answer::laws::answers_exist();
 }

@@ -6,7 +6,7 @@ ghost use Rattle.um_text_proofs.specs.Laws.{EachTextIsProved};
 pub fn texts_are_proved()
     ensures { EachTextIsProved }
 {
-    um_shape::laws::shapes_of_programs();
+    um_shape::shapes_of_programs();
     um_infer::laws::stops();
     um_each_answer::laws::answers_exist();
 }
