@@ -27,6 +27,7 @@ sys.path.insert(0, str(HOME / "python"))
 
 PROGRAM = Path(os.environ.get("UMC") or BUILT).absolute()
 REFERENCE = HOME / "reference/umc"
+VEHICLE = HOME / "examples/vehicle.um"
 # The reference is slow: what takes large files is left out with a program that lacks the command.
 TOO_SLOW = {"calls"}
 FOLDER = TemporaryDirectory()
@@ -150,3 +151,25 @@ def script(tmp_path: Path) -> Callable[[str], Path]:
         path.chmod(0o755)
         return path
     return write
+
+
+# ---- programs in Python
+
+def engines() -> list[Any]:
+    """What may answer a program in Python: the program, and the shared library if it is there."""
+    from umc.embed import library
+    why = f"there is no {library.NAME}: embed/build makes it, {library.VARIABLE} names one"
+    mark = [pytest.mark.skip(reason=why)] if library.find() is None else []
+    return [pytest.param("process", id="umc"), pytest.param("library", id="library", marks=mark)]
+
+
+@pytest.fixture(params=engines())
+def engine(request: pytest.FixtureRequest) -> Any:
+    import umc
+    return umc.Process(PROGRAM) if request.param == "process" else umc.Library()
+
+
+@pytest.fixture
+def vehicle(engine: Any) -> Any:
+    import umc
+    return umc.Program.read(VEHICLE, engine=engine)

@@ -8,30 +8,12 @@ from fractions import Fraction
 import pytest
 
 import umc
-from conftest import HOME, PROGRAM
+from conftest import HOME, PROGRAM, VEHICLE
 from umc.embed import engines as engines_module
 from umc.embed import library
 
-VEHICLE = HOME / "examples/vehicle.um"
 RECORDS = "type P = { x: num; ok: bool }\nlet same (p: P) = p\nlet both (a: bool) (l: bool list) = a :: l\n"
 THIRD = Fraction(1, 3)
-
-
-def engines() -> list[object]:
-    found = library.find()
-    why = f"there is no {library.NAME}: embed/build makes it, {library.VARIABLE} names one"
-    mark = [pytest.mark.skip(reason=why)] if found is None else []
-    return [pytest.param("process", id="umc"), pytest.param("library", id="library", marks=mark)]
-
-
-@pytest.fixture(params=engines())
-def engine(request):
-    return umc.Process(PROGRAM) if request.param == "process" else umc.Library()
-
-
-@pytest.fixture
-def vehicle(engine):
-    return umc.Program.read(VEHICLE, engine=engine)
 
 
 def quantity(text: str) -> tuple[Fraction, str]:
@@ -377,32 +359,3 @@ def test_images(engine):
     with pytest.raises(umc.Refused) as caught:
         umc.Image(answer.output[:-1], engine=engine).call("mean", [1])
     assert caught.value.kind == "image"
-
-
-def test_quantities_of_pint(vehicle):
-    pint = pytest.importorskip("pint", reason="Debian's python3-pint isn't there")
-    units = pint.UnitRegistry()
-    found = vehicle.kinetic(2 * units.kg, Fraction(7, 2) * units.meter / units.second)
-    assert found.text in ("49r2<kg m^2/s^2>", "49r4<kg m^2/s^2>")
-    given = found.to_pint(units)
-    assert given.magnitude == found.magnitude and isinstance(given.magnitude, Fraction) and given.check("[energy]")
-    for lengths in ([1 * units.m, 2 * units.m], units.Quantity([1, 2], "m")):
-        assert vehicle.mean(lengths).text == "3r2<m>"
-    with pytest.raises(umc.ValueRefused):
-        vehicle.metres(1.5 * units.foot)
-    assert vehicle.metres(1.5 * units.foot, step="0.5").text == "1143r2500<m>"
-    with pytest.raises(umc.ValueRefused, match="whole number"):
-        vehicle.mean([units.Quantity(1, "m") ** 0.5])
-
-
-def test_columns_of_pandas(vehicle):
-    pandas = pytest.importorskip("pandas", reason="Debian's python3-pandas isn't there")
-    frame = pandas.DataFrame({"mass [kg]": [2, 3], "speed [m/s]": [1.5, 2.0], "n": ["1", "2.5"]})
-    found = vehicle.kinetic.each(frame["mass [kg]"], frame["speed [m/s]"], step="0.5")
-    assert [value.text for value in found] == ["9r4<kg m^2/s^2>", "6<kg m^2/s^2>"]
-    assert vehicle.mean(frame["mass [kg]"]).text == "5r2<kg>"
-    assert vehicle.mean(frame["n"], unit="m").text == "7r4<m>"
-    assert vehicle.mean(frame["mass [kg]"].to_numpy(), unit="ft").text == "5r2<ft>"
-    for missing in (None, float("nan"), pandas.NA, pandas.NaT):
-        with pytest.raises(umc.ValueRefused, match="there is no value"):
-            vehicle.mean(pandas.Series([1, missing], dtype=object), unit="m", step=1)
