@@ -64,7 +64,7 @@ module _ (asked : AskedCall) (c : CheckedTree) where
   abbrev Asks : Result CallTree CallRefusal → Type 0
   Asks r = IsCallOf c.text.program c.text.abbreviations c.schemes asked.name asked.texts r
 
-  refusal_told : (why : CallRefusal) → Err why ≢ Err refusal.NoMemory → Asks (Err why) → Told (IsCallReply asked.texts why)
+  refusal_told : (why : CallRefusal) → why ≢ refusal.NoMemory → Asks (Err why) → Told (IsCallReply asked.texts why)
   refusal_told refusal.NoFunction some is = (line (codes "error 11: no such function"), Input, (refl, refl))
   refusal_told refusal.WrongCount some is = (line (codes "error 11: wrong number of arguments"), Input, (refl, refl))
   refusal_told (refusal.Argument index stop) some (k, f, named, (many, first)) = argument_told index (get_or asked.texts index []) stop first.cause
@@ -77,7 +77,7 @@ module _ (asked : AskedCall) (c : CheckedTree) where
   module _ (Says : ProgramTree → CallTree → List ℕ → Status → Type 0) (said : (call : CallTree) → IsAskedCall asked c call → Told (Says c.text.program call)) where
     by_answer : (r : Result CallTree CallRefusal) → r ≢ Err refusal.NoMemory → Asks r → Told (OfCall Says asked c)
     by_answer (Ok call) some is = let (text, status, says) = said call is in (text, status, inl (call, is, says))
-    by_answer (Err why) some is = let (text, status, reply) = refusal_told why some is in (text, status, inr (why, is, reply))
+    by_answer (Err why) some is = let (text, status, reply) = refusal_told why (λ same. some (ap (λ (x : CallRefusal). Err x) same)) is in (text, status, inr (why, is, reply))
 
     pub of_call : EachTextIsAnswered → (bytes : List ℕ) → IsCheckedText bytes c → Told (OfCall Says asked c)
     of_call each bytes checked =
@@ -148,8 +148,8 @@ others_have_memory (Ok unit) (Ok units) first later e = cc e
 
 parts_have_memory : (measures : List ℕ → Option PowerMap) (parts : List PartSyntax) → HasMemory (part_units measures parts)
 parts_have_memory measures [] e = cc e
-parts_have_memory measures (part ∷ parts) =
-    others_have_memory (part_unit measures part) (part_units measures parts) (part_has_memory part (resolved_unit measures [] part.unit)) (parts_have_memory measures parts)
+parts_have_memory measures (part ∷ parts) e =
+    others_have_memory (part_unit measures part) (part_units measures parts) (part_has_memory part (resolved_unit measures [] part.unit)) (parts_have_memory measures parts) e
 
 units_have_memory : (known : Known) (parts : List PartSyntax) → HasMemory (display_units known parts)
 units_have_memory known parts = parts_have_memory (measure_unit known) parts
