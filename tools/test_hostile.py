@@ -126,6 +126,12 @@ def test_the_status_tells_whether_a_line_is_above(tmp_path: Path) -> None:
     assert lacking.returncode == 0 and "not built" in lacking.stdout
 
 
+def test_limits_are_asked_of_a_program_without_words(tmp_path: Path) -> None:
+    made = program(tmp_path, "sys.exit(0)")
+    done = subprocess.run([TOOL, "--only", "limits", made, "word"], capture_output=True, text=True)
+    assert (done.returncode, done.stderr) == (0, "0 inputs, none above its bound\n")
+
+
 def test_a_program_that_is_not_there_is_told(tmp_path: Path) -> None:
     done = subprocess.run([TOOL, tmp_path / "none"], capture_output=True, text=True)
     assert (done.returncode, done.stderr) == (2, f"tools/hostile: there is no program {tmp_path / 'none'}\n")
