@@ -7,7 +7,7 @@ import sys
 from collections.abc import Sequence
 from functools import cache
 from pathlib import Path
-from typing import Any, NamedTuple
+from typing import Any
 
 from umc.embed.engines import NO_ZERO, PROBES, UNKNOWN_WORDS, Handle, TextHandle
 from umc.errors import Unavailable, WordsTooLong
@@ -72,13 +72,12 @@ class Library:
             self._call_into = self._calls.umc_call_into
         except (OSError, AttributeError) as fault:
             raise Unavailable(f"{found}: {fault}") from fault
+        # What `_call_into` is handed is made of these types once for many calls, so ctypes needn't make it.
         text: list[Any] = [ctypes.c_char_p, ctypes.c_size_t]
         words: list[Any] = [ctypes.POINTER(ctypes.c_char_p), ctypes.c_size_t]
         answer: list[Any] = [ctypes.POINTER(ctypes.c_void_p), ctypes.POINTER(ctypes.c_size_t)]
         self._answer.argtypes = [*words, *text, *answer]
         self._open.argtypes = [*text, ctypes.POINTER(ctypes.c_void_p), *answer]
-        room: list[Any] = [ctypes.c_void_p, ctypes.c_size_t, ctypes.c_void_p]
-        self._call_into.argtypes = [ctypes.c_void_p, ctypes.c_ulong, *text, *room]
         self._free.argtypes = self._close.argtypes = [ctypes.c_void_p]
         self._free.restype = self._close.restype = None
         self.path = Path(found) if "/" in found else loaded(found)
@@ -112,21 +111,18 @@ class Library:
             self._free(begin)
 
 
-class Room(NamedTuple):
-    """Room for an answer and for its size, and what tells the library of them: it is made once for many calls."""
-
-    answer: "ctypes.Array[ctypes.c_char]"
-    size: ctypes.c_size_t
-    answer_at: ctypes.c_void_p
-    most: ctypes.c_size_t
-    size_at: ctypes.c_void_p
+# Room for answers to calls of a program with one budget, made once for many calls: the budget, and how many bytes an
+# answer may have; what the library is handed beside a line, in its order; and what holds the answer and its size.
+Room = tuple[int, int, ctypes.c_void_p, ctypes.c_ulong, ctypes.c_size_t, ctypes.c_void_p, ctypes.c_size_t,
+             ctypes.c_void_p, "ctypes.Array[ctypes.c_char]", ctypes.c_size_t]
 
 
-def room_for(most: int) -> Room:
-    """Room for an answer of so many bytes."""
+def room_for(program: ctypes.c_void_p, budget: int, most: int) -> Room:
+    """Room for answers of so many bytes."""
     answer, size = ctypes.create_string_buffer(most), ctypes.c_size_t()
-    return Room(answer, size, ctypes.c_void_p(ctypes.addressof(answer)), ctypes.c_size_t(most),
-                ctypes.c_void_p(ctypes.addressof(size)))
+    return (budget, most, program, ctypes.c_ulong(budget), ctypes.c_size_t(),
+            ctypes.c_void_p(ctypes.addressof(answer)), ctypes.c_size_t(most),
+            ctypes.c_void_p(ctypes.addressof(size)), answer, size)
 
 
 class Kept:
@@ -169,20 +165,26 @@ class OpenHandle(TextHandle):
         Other threads run meanwhile, but for those that call the same program.
         """
         kept = self._kept or self._open()   # a thread that calls keeps it open
-        if not kept.is_open or not 0 <= budget <= MOST_BUDGET:
-            return super().call(budget, line)
         try:
             room = kept.rooms.pop()
         except IndexError:
-            room = room_for(FIRST_ROOM)
-        answer, size, answer_at, most, size_at = room
-        status = self._call_into(kept.program, budget, line, len(line), answer_at, most, size_at)
-        if size.value > FIRST_ROOM:
-            answer, size, answer_at, most, size_at = room_for(size.value)
-            status = self._call_into(kept.program, budget, line, len(line), answer_at, most, size_at)
-        found: bytes = answer[:size.value]  # type: ignore[assignment]
-        kept.rooms.append(room)
-        return Answer(status, found) if status else found.decode("utf-8", "replace").removesuffix("\n")
+            room = None
+        if room is None or room[0] != budget:
+            if not kept.is_open or not 0 <= budget <= MOST_BUDGET:
+                return super().call(budget, line)
+            room = room_for(kept.program, budget, FIRST_ROOM)
+        while True:
+            _, most, program, calls, line_size, answer_at, answer_size, size_at, answer, size = room
+            line_size.value = len(line)
+            status = self._call_into(program, calls, line, line_size, answer_at, answer_size, size_at)
+            count = size.value
+            if count <= most:
+                break
+            room = room_for(kept.program, budget, count)
+        found: bytes = answer[:count]   # type: ignore[assignment]
+        if most == FIRST_ROOM:
+            kept.rooms.append(room)
+        return Answer(status, found) if status else found[:-1].decode()     # a value is a line
 
     def close(self) -> None:
         """Lets go of the program, once no thread calls it."""

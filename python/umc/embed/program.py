@@ -200,8 +200,11 @@ class Function:
 
         Raises `umc.Refused` if the program refuses the call, and `umc.ValueRefused` for a value that is no argument.
         """
-        program = self.program
-        return value_of(program.said(_line(self.name, arguments, unit, step)), program._convert)
+        program, line = self.program, _line(self.name, arguments, unit, step)
+        answer = program._handle.call(program.budget, line)     # as `said`, which takes longer
+        if isinstance(answer, Answer):
+            raise program._refusal(line_words(line), answer)
+        return value_of(answer, program._convert)
 
     def printed(self, *arguments: Any, unit: Units = None, step: Step | None = None) -> str:
         """The value of a call as the program prints it, as 381r125<m>."""
