@@ -15,6 +15,16 @@ use crate::index::{SlotList, follow_terms};
 use std::alloc::Global;
 use um_units::{Atom, Unit, UnitStop};
 
+/// A variable, a unit that is put for it and doesn't hold it, and that unit over the variable.
+#[derive(Clone, Copy)]
+pub struct Replacement<'a> {
+    pub variable: u32,
+    pub factor: &'a Unit,
+    pub change: &'a Unit,
+    ghost absent: { power_of factor.now (Var variable) ≡ pos 0 },
+    ghost over: { change.now ≡ mul factor.now (inv (atom (Var variable))) },
+}
+
 /// The unit, which doesn't hold variable m, divided by variable m.
 fn over_variable(alloc: Global, unit: &Unit, m: u32) -> Result<Unit, UnitStop>
     requires absent { power_of unit.now (Var m) ≡ pos 0 }
@@ -26,61 +36,69 @@ fn over_variable(alloc: Global, unit: &Unit, m: u32) -> Result<Unit, UnitStop>
     unit.mul_pow(alloc, &variable, -1)
 }
 
-/// The factor is put for variable m in the slot's unit, where `change` is the factor over variable m, and the index
-/// follows but at m.
+/// The replacement is made in the slot's unit, and the index follows but at the variable.
 fn put_in_slot(
     alloc: Global,
     units: &mut Vec<Unit>,
     index: &mut Vec<SlotList>,
     slot: u32,
-    m: u32,
-    factor: &Unit,
-    change: &Unit,
+    replacement: &Replacement,
 ) -> Result<(), UnitStop>
     requires slot { slot < length units.old.items }
-    requires m { m < length units.old.items }
-    requires change { change.now ≡ mul factor.now (inv (atom (Var m))) }
-    requires indexed { IsIndex units.old.items (set index.old.items m (holders units.old.items m)) }
-    requires variables { VariablesBelow (length units.old.items) factor.now }
+    requires variable { replacement.now.variable < length units.old.items }
+    requires indexed { IsIndex units.old.items
+        (set index.old.items replacement.now.variable (holders units.old.items replacement.now.variable)) }
+    requires variables { VariablesBelow (length units.old.items) replacement.now.factor.now }
     ensures exact { OnOk result (units.new.items
-        ≡ set units.old.items slot (replace (multiply m change.now) (slice_index_or units.old.items slot one))) }
-    ensures range { RangeUnless result
-        (fits (replace (multiply m change.now) (slice_index_or units.old.items slot one))) }
-    ensures indexed { OnOk result (IsIndex units.new.items (set index.new.items m (holders units.new.items m))) }
+        ≡ set units.old.items slot (replace (multiply replacement.now.variable replacement.now.change.now)
+        (slice_index_or units.old.items slot one))) }
+    ensures range { RangeUnless result (fits (replace (multiply replacement.now.variable replacement.now.change.now)
+        (slice_index_or units.old.items slot one))) }
+    ensures indexed { OnOk result (IsIndex units.new.items
+        (set index.new.items replacement.now.variable (holders units.new.items replacement.now.variable))) }
     ensures slots { length units.new.items ≡ length units.old.items }
 {
     let place = slot as usize;
-    let unit = multiplied(alloc, &units[place], m, change)?;
-    follow_terms(index, factor.terms(), slot, &units[place], &unit)?;
+    let unit = multiplied(
+        alloc,
+        &units[place],
+        replacement.variable,
+        replacement.change,
+    )?;
+    follow_terms(
+        index,
+        replacement.factor.terms(),
+        slot,
+        &units[place],
+        &unit,
+    )?;
     units[place] = unit;
     Ok(())
 }
 
-/// The factor, which doesn't hold variable m, is put for variable m in each unit that holds it, where `change` is the
-/// factor over variable m.
+/// The replacement is made in each unit that holds the variable.
 pub fn put_in_each(
     alloc: Global,
     units: &mut Vec<Unit>,
     index: &mut Vec<SlotList>,
-    m: u32,
-    factor: &Unit,
-    change: &Unit,
+    replacement: &Replacement,
 ) -> Result<(), UnitStop>
-    requires m { m < length units.old.items }
-    requires absent { power_of factor.now (Var m) ≡ pos 0 }
-    requires change { change.now ≡ mul factor.now (inv (atom (Var m))) }
+    requires variable { replacement.now.variable < length units.old.items }
     requires indexed { IsIndex units.old.items index.old.items }
-    requires variables { VariablesBelow (length units.old.items) factor.now }
-    ensures exact { OnOk result (units.new.items ≡ map (replace (multiply m change.now)) units.old.items) }
-    ensures range { RangeUnless result (list_all fits (map (replace (multiply m change.now)) units.old.items)) }
+    requires variables { VariablesBelow (length units.old.items) replacement.now.factor.now }
+    ensures exact { OnOk result (units.new.items
+        ≡ map (replace (multiply replacement.now.variable replacement.now.change.now)) units.old.items) }
+    ensures range { RangeUnless result
+        (list_all fits (map (replace (multiply replacement.now.variable replacement.now.change.now)) units.old.items)) }
     ensures indexed { OnOk result (IsIndex units.new.items index.new.items) }
     ensures slots { length units.new.items ≡ length units.old.items }
 {
-    let slots = index[m as usize].to_vec(alloc)?;
+    let place = replacement.variable as usize;
+    let slots = index[place].to_vec(alloc)?;
     for slot in &slots {
-        put_in_slot(alloc, units, index, *slot, m, factor, change)?;
+        put_in_slot(alloc, units, index, *slot, replacement)?;
     }
-    index[m as usize] = SlotList::empty(alloc);
+    index[place] = SlotList::empty(alloc);
     Ok(())
 }
 
@@ -103,5 +121,10 @@ pub fn put_in_holders(
     ensures slots { length units.new.items ≡ length units.old.items }
 {
     let change = over_variable(alloc, factor, m)?;
-    put_in_each(alloc, units, index, m, factor, &change)
+    let replacement = Replacement {
+        variable: m,
+        factor,
+        change: &change,
+    };
+    put_in_each(alloc, units, index, &replacement)
 }

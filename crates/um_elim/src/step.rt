@@ -20,7 +20,7 @@ ghost use Rattle.um_units.specs.Variables.{VariablesBelow};
 use crate::ElimStop;
 use crate::elim_step::{ElimStep, next_step, unit_after_step};
 use crate::index::{SlotList, multiply_holders};
-use crate::replacement::{put_in_each, put_in_holders};
+use crate::replacement::{Replacement, put_in_each, put_in_holders};
 use std::alloc::Global;
 use um_units::{Atom, Term, Unit, UnitStop};
 
@@ -111,10 +111,20 @@ fn put_single_step(
     ensures slots { length units.new.items ≡ length units.old.items }
 {
     if step.inverted {
-        return put_in_each(alloc, units, index, step.variable, &step.by, r);
+        let replacement = Replacement {
+            variable: step.variable,
+            factor: &step.by,
+            change: r,
+        };
+        return put_in_each(alloc, units, index, &replacement);
     }
     let change = r.inv(alloc)?;
-    put_in_each(alloc, units, index, step.variable, &step.by, &change)
+    let replacement = Replacement {
+        variable: step.variable,
+        factor: &step.by,
+        change: &change,
+    };
+    put_in_each(alloc, units, index, &replacement)
 }
 
 /// Whether the power of variable m in the unit is 1 or -1.

@@ -7,6 +7,6 @@ use Rattle.um_elim.proofs.replacement.put_in_each.Given as goal
 
 abbrev pub invariant-loop-slot : goal.invariant-loop-slot
 invariant-loop-slot l = record {
-  units : l.units.items ≡ changed (replace (multiply l.m l.change)) (take l.slot-index l.slot-items) l.initial.units.items;
-  indexed : IsIndexBut l.m l.units.items l.index.items;
+  units : l.units.items ≡ changed (replace (multiply l.replacement.variable l.replacement.change.now)) (take l.slot-index l.slot-items) l.initial.units.items;
+  indexed : IsIndexBut l.replacement.variable l.units.items l.index.items;
 }

@@ -20,17 +20,17 @@ put : (r change : PowerMap) (t : ElimStep) (b : Bool) → change ≡ signed (not
 put r change t b e i is h = ap (multiply t.variable) (changed r change t b e i is h) ∙ multiply-over_variable t.variable t.by
 
 -- ---- the step inverts r
-pub put_in_each-requires-clause-m : goal.put_in_each-requires-clause-m
-put_in_each-requires-clause-m c = step_low _ c.args.r.now c.args.step.now c.requires.step c.requires.variables
+pub put_in_each-requires-clause-variable : goal.put_in_each-requires-clause-variable
+put_in_each-requires-clause-variable c = step_low _ c.args.r.now c.args.step.now c.requires.step c.requires.variables
 
-pub put_in_each-requires-clause-absent : goal.put_in_each-requires-clause-absent
-put_in_each-requires-clause-absent c = step_absent c.args.r.now c.args.step.now c.requires.step
+pub invariant_of-replacement-clause-absent : goal.invariant_of-replacement-clause-absent
+invariant_of-replacement-clause-absent c = step_absent c.args.r.now c.args.step.now c.requires.step
 
 pub put_in_each-requires-clause-variables : goal.put_in_each-requires-clause-variables
 put_in_each-requires-clause-variables c = factor_below _ c.args.r.now c.args.step.now c.requires.step c.requires.variables
 
-pub put_in_each-requires-clause-change : goal.put_in_each-requires-clause-change
-put_in_each-requires-clause-change c = changed c.args.r.now c.args.r.now c.args.step.now true refl c.if-step.true c.requires.step c.requires.single
+pub invariant_of-replacement-clause-over : goal.invariant_of-replacement-clause-over
+invariant_of-replacement-clause-over c = changed c.args.r.now c.args.r.now c.args.step.now true refl c.if-step.true c.requires.step c.requires.single
 
 pub returns-then-step-clause-exact : goal.returns-then-step-clause-exact
 returns-then-step-clause-exact c =
@@ -43,17 +43,17 @@ returns-then-step-clause-range c =
     subst (λ s. RangeUnless c.put_in_each.result (list_all fits (map (replace s) c.args.units.now.items))) same c.put_in_each.ensures.range
 
 -- ---- it doesn't
-pub put_in_each-requires-2-clause-m : goal.put_in_each-requires-2-clause-m
-put_in_each-requires-2-clause-m c = step_low _ c.args.r.now c.args.step.now c.requires.step c.requires.variables
+pub put_in_each-requires-2-clause-variable : goal.put_in_each-requires-2-clause-variable
+put_in_each-requires-2-clause-variable c = step_low _ c.args.r.now c.args.step.now c.requires.step c.requires.variables
 
-pub put_in_each-requires-2-clause-absent : goal.put_in_each-requires-2-clause-absent
-put_in_each-requires-2-clause-absent c = step_absent c.args.r.now c.args.step.now c.requires.step
+pub invariant_of-replacement-2-clause-absent : goal.invariant_of-replacement-2-clause-absent
+invariant_of-replacement-2-clause-absent c = step_absent c.args.r.now c.args.step.now c.requires.step
 
 pub put_in_each-requires-2-clause-variables : goal.put_in_each-requires-2-clause-variables
 put_in_each-requires-2-clause-variables c = factor_below _ c.args.r.now c.args.step.now c.requires.step c.requires.variables
 
-pub put_in_each-requires-2-clause-change : goal.put_in_each-requires-2-clause-change
-put_in_each-requires-2-clause-change c = changed c.args.r.now c.in_ok-change.change c.args.step.now false c.in_ok-change.ensures.exact c.if-step.false c.requires.step c.requires.single
+pub invariant_of-replacement-2-clause-over : goal.invariant_of-replacement-2-clause-over
+invariant_of-replacement-2-clause-over c = changed c.args.r.now c.in_ok-change.change c.args.step.now false c.in_ok-change.ensures.exact c.if-step.false c.requires.step c.requires.single
 
 pub returns-clause-exact : goal.returns-clause-exact
 returns-clause-exact c =
