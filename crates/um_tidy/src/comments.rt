@@ -11,7 +11,7 @@ ghost use Rattle.um_tidy.specs.Placed.{below_blank, front, lines_from, IsMargin}
 use crate::edges::first_edge;
 use crate::gap::{Above, push_blank_line};
 use crate::margin::{Margin, margin_at};
-use crate::white::trimmed_len;
+use crate::white::trimmed_some;
 use memchr::memrchr;
 use std::alloc::AllocError;
 use um_draft::Draft;
@@ -106,7 +106,7 @@ fn edge_after(gap: &[u8], start: usize, last: usize) -> Edge
 {
     let feed = first_edge(gap, start + 1, last);
     Edge {
-        end: trimmed_len(&gap[..feed]),
+        end: trimmed_some(&gap[..feed]),
         feed,
         margin: margin_at(gap, feed + 1),
     }
@@ -129,11 +129,15 @@ fn push_edge(text: &mut Draft, gap: &[u8], from: usize, edge: Edge) -> Result<us
 {
     let at = edge.feed + 1;
     let margin = edge.margin;
-    if margin.others == 0 && margin.line - at < 2 {
+    if margin.others > 0 {
+        text.push_line(gap, from, edge.end)?;
+        return push_front(text, at, margin);
+    }
+    if margin.line - at < 2 {
         return push_end(text, gap, from, edge.end, edge.feed);
     }
     text.push_line(gap, from, edge.end)?;
-    push_front(text, at, margin)
+    Ok(margin.line - 1)
 }
 
 /// Adds the blank lines and the margin before a comment, up to the place that is told. From there on all stays.

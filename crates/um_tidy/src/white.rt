@@ -49,8 +49,21 @@ pub(crate) fn trimmed_len(bytes: &[u8]) -> usize
     ensures within { result ≤ length bytes.now }
     ensures kept { take result bytes.now ≡ trimmed bytes.now }
 {
+    if bytes.is_empty() {
+        return 0;
+    }
+    trimmed_some(bytes)
+}
+
+/// The same, if there is a byte.
+#[inline(always)]
+pub(crate) fn trimmed_some(bytes: &[u8]) -> usize
+    requires { 0 < length bytes.now }
+    ensures within { result ≤ length bytes.now }
+    ensures kept { take result bytes.now ≡ trimmed bytes.now }
+{
     let len = bytes.len();
-    if !ends_in_space(bytes, len) {
+    if !is_space(bytes[len - 1]) {
         return len;
     }
     trimmed_before(bytes, len - 1)
