@@ -1,10 +1,9 @@
 -- Elimination steps of a unit as data: what they make of units, and what they leave of the unit.
 -- Source: Kennedy (1996), on unification in the free abelian group: x is replaced by x times a product of the other
 -- atoms, which brings their powers below x's. That steps are data is this project's own.
-use Rattle.std.specs.Prelude.{◌==◌, ◌≡◌, ◌≢◌, ◌⊎◌, ℕ, ◌<◌, Bool, true, false, List, [], ◌∷◌, map, All, ℤ, pos, negsuc}
-use Rattle.std.specs.Prelude.{nat_abs, Some}
+use Rattle.std.specs.Prelude.{◌==◌, ◌≡◌, ◌≢◌, ◌⊎◌, ℕ, ◌<◌, false, List, [], ◌∷◌, map, All, pos}
 use Rattle.um_units.specs.declared.Atom.TheVariants.{Base, Var}
-use Rattle.um_units.specs.PowerMap.{PowerMap, power_of, one, atom, inv, pow, replace}
+use Rattle.um_units.specs.PowerMap.{PowerMap, power_of, one, atom, pow, replace}
 use Rattle.um_elim.specs.declared.elim_step.ElimStep.{ElimStep}
 use Rattle.um_elim.specs.ElimStep.{substitute, multiply, signed, IsStepOf}
 
