@@ -1,10 +1,10 @@
 // A place that moves on through a text, so that to print many places in order reads the text once.
-ghost use Rattle.std.specs.Prelude.{◌≡◌, ◌++◌, ◌≤◌, OnOk, length, take};
+ghost use Rattle.std.specs.Prelude.{ℕ, List, ◌≡◌, ◌++◌, ◌≤◌, IfOk, OnOk, codes, length, take};
 ghost use Rattle.um_reports.specs.Places.{place_text};
-ghost use Rattle.um_reports.specs.Cursors.{IsAt};
+ghost use Rattle.um_reports.specs.Cursors.{AreAt, IsAt, line_start};
 
 use crate::place::begins_character;
-use std::alloc::AllocError;
+use std::alloc::{AllocError, Global};
 
 /// A byte offset into a text, with its line and its column.
 #[derive(Clone, Copy)]
@@ -46,6 +46,66 @@ pub fn push_next_place(
     text.extend_from_slice(itoa::Buffer::new().format(place.line).as_bytes())?;
     text.push(b':')?;
     text.extend_from_slice(itoa::Buffer::new().format(place.column).as_bytes())
+}
+
+/// The heads of lines that each tell of a place: two spaces, the place's line, a colon and its column.
+///
+/// The text before the column is kept as long as the line stays the same.
+#[derive(Drop)]
+pub struct LineHeads {
+    pub cursor: Cursor,
+    pub start: Vec<u8>,
+}
+
+impl LineHeads {
+    /// Heads at the start of a text.
+    pub fn new(alloc: Global) -> Result<LineHeads, AllocError>
+        ensures { IfOk result (λ heads. (bytes : List ℕ) → AreAt bytes heads) }
+    {
+        let cursor = start_of_text();
+        let mut start = Vec::new(alloc);
+        push_start(&mut start, cursor.line)?;
+        Ok(LineHeads { cursor, start })
+    }
+
+    /// Adds two spaces, and the line and the column of a byte offset into the text, to which the heads move.
+    ///
+    /// The bytes between the place before and this one are read. If this one stands before the other, the text is read
+    /// from its start.
+    pub fn push_next(&mut self, text: &mut Vec<u8>, bytes: &[u8], at: u32) -> Result<(), AllocError>
+        requires { AreAt bytes.now self.old }
+        ensures placed { OnOk result (text.new.items ≡ text.old.items ++ codes "  " ++ place_text bytes.now at) }
+        ensures moved { OnOk result (AreAt bytes.now self.new) }
+    {
+        let place = place_after(bytes, self.cursor, at);
+        self.move_to(place)?;
+        text.extend_from_slice(&self.start)?;
+        text.extend_from_slice(itoa::Buffer::new().format(place.column).as_bytes())
+    }
+
+    fn move_to(&mut self, place: Cursor) -> Result<(), AllocError>
+        requires { self.old.start.items ≡ line_start self.old.cursor.line }
+        ensures cursor { self.new.cursor ≡ place }
+        ensures start { OnOk result (self.new.start.items ≡ line_start place.line) }
+    {
+        let line = self.cursor.line;
+        self.cursor = place;
+        if place.line != line {
+            self.start.clear();
+            return push_start(&mut self.start, place.line);
+        }
+        Ok(())
+    }
+}
+
+/// Adds the start of a line about a place in this line.
+fn push_start(text: &mut Vec<u8>, line: u64) -> Result<(), AllocError>
+    ensures { OnOk result (text.new.items ≡ text.old.items ++ line_start line) }
+{
+    text.extend_from_slice(b"  ")?;
+    text.extend_from_slice(itoa::Buffer::new().format(line).as_bytes())?;
+    text.push(b':')?;
+    Ok(())
 }
 
 /// The cursor at a byte offset, by one at another.

@@ -20,7 +20,7 @@ pub use call_refusal::{
     reply_to_call, reply_to_call_range, reply_to_matching, reply_to_signature, reply_to_trap,
     reply_to_unnamed,
 };
-pub use cursor::{Cursor, push_next_place, start_of_text};
+pub use cursor::{Cursor, LineHeads, push_next_place, start_of_text};
 pub use image_refusal::{reply_to_bad_byte, reply_to_bad_code, reply_to_bad_head};
 pub use refusal::{
     reply_line, reply_to_certificate, reply_to_names, reply_to_not_general, reply_to_range,
