@@ -1,11 +1,11 @@
 -- The steps of the answer to `annot`, as the code makes them.
 -- Source: this project's own.
-use Rattle.std.specs.Prelude.{◌≡◌, ℕ, List, ◌++◌, length, Some, slice_get}
+use Rattle.std.specs.Prelude.{◌≡◌, ℕ, List, ◌++◌, Some, slice_get}
 use Rattle.um_tree.specs.ProgramTree.{FunctionTree, ProgramTree, SchemeTree}
 use Rattle.um_rows.specs.NodeTypes.{TypedNode}
 use Rattle.um_annot.specs.declared.stop.AnnotStop.{AnnotStop}
 use Rattle.um_annot.specs.declared.stop.AnnotStop.TheVariants as stop
-use Rattle.um_annot.specs.Annotated.{Annotation, annotated, past_range, annotation}
+use Rattle.um_annot.specs.Annotated.{Annotation, annotated, past_range}
 use Rattle.um_answers.specs.declared.annot.ListStop.{ListStop}
 use Rattle.um_answers.specs.declared.annot.ListStop.TheVariants as list_stop
 use Rattle.um_answers.specs.AnnotAnswer.{Listing, past, function_lines}

@@ -6,7 +6,7 @@ ghost use Rattle.um_infer.specs.Answers.{scheme_trees};
 ghost use Rattle.um_infer.specs.Inference.{all_schemes, infer};
 ghost use Rattle.um_infer.specs.SolvedPrograms.{AreSolvedFunctions, IsSolvedAt};
 ghost use Rattle.um_rows.specs.NodeTypes.{typed_node};
-ghost use Rattle.um_reports.specs.Cursors.{IsAt};
+ghost use Rattle.um_reports.specs.Cursors.{AreAt};
 ghost use Rattle.um_reports.specs.Steps.{line};
 ghost use Rattle.um_show.specs.SchemeText.{scheme_text as scheme_line};
 ghost use Rattle.um_front.specs.Parts.{checked_tree};
@@ -19,7 +19,7 @@ use std::alloc::{AllocError, Global};
 use um_annot::{AnnotStop, annotated};
 use um_front::{Answer, SolvedText, Text, check_solved, function_at};
 use um_infer::SolvedFunction;
-use um_reports::{Cursor, Reply, Status, push_next_place, reply_to_range, start_of_text};
+use um_reports::{LineHeads, Reply, Status, reply_to_range};
 use um_rows::NodeType;
 use um_shape::Shaped;
 use um_show::{Variables, push_named_type, scheme_text};
@@ -90,7 +90,8 @@ fn reply_listing(source: &Source, functions: &mut Vec<SolvedFunction>) -> Answer
         (program_tree source.now.shaped.now).functions (scheme_trees source.now.schemes.now))
         reply.text.items reply.status) }
 {
-    match listing_text(source, functions) {
+    let mut heads = LineHeads::new(source.alloc)?;
+    match listing_text(source, functions, &mut heads) {
         Ok(text) => Ok(Reply {
             text,
             status: Status::Done,
@@ -104,10 +105,15 @@ fn reply_listing(source: &Source, functions: &mut Vec<SolvedFunction>) -> Answer
 }
 
 /// The lines of all functions.
-fn listing_text(source: &Source, functions: &mut Vec<SolvedFunction>) -> Result<Vec<u8>, ListStop>
+fn listing_text(
+    source: &Source,
+    functions: &mut Vec<SolvedFunction>,
+    heads: &mut LineHeads,
+) -> Result<Vec<u8>, ListStop>
     requires inferred { infer (program_tree source.now.shaped.now) ≡ all_schemes (scheme_trees source.now.schemes.now) }
     requires solved { AreSolvedFunctions (program_tree source.now.shaped.now) (scheme_trees source.now.schemes.now)
         (length (program_tree source.now.shaped.now).functions) functions.old.items }
+    requires heads { AreAt source.now.bytes.now heads.old }
     ensures { MatchResult result
         (λ text. listing source.now.bytes.now (program_tree source.now.shaped.now)
         (scheme_trees source.now.schemes.now) 0 (program_tree source.now.shaped.now).functions
@@ -117,15 +123,8 @@ fn listing_text(source: &Source, functions: &mut Vec<SolvedFunction>) -> Result<
         (program_tree source.now.shaped.now).functions (scheme_trees source.now.schemes.now))) }
 {
     let mut text = Vec::new(source.alloc);
-    let mut cursor = start_of_text();
     for i in 0..function_count(source.shaped) {
-        match add_function(
-            source,
-            i,
-            &mut functions[i as usize],
-            &mut cursor,
-            &mut text,
-        ) {
+        match add_function(source, i, &mut functions[i as usize], heads, &mut text) {
             Ok(()) => {}
             Err(AnnotStop::PowerRange { at }) => {
                 return Err(ListStop::PowerRange { function: i, at });
@@ -149,15 +148,15 @@ fn add_function(
     source: &Source,
     i: u32,
     solved: &mut SolvedFunction,
-    cursor: &mut Cursor,
+    heads: &mut LineHeads,
     text: &mut Vec<u8>,
 ) -> Result<(), AnnotStop>
     requires function { i < length (program_tree source.now.shaped.now).functions }
     requires inferred { infer (program_tree source.now.shaped.now) ≡ all_schemes (scheme_trees source.now.schemes.now) }
     requires solved { IsSolvedAt (program_tree source.now.shaped.now) (scheme_trees source.now.schemes.now) i
         solved.old }
-    requires cursor { IsAt source.now.bytes.now cursor.old }
-    ensures cursor { OnOk result (IsAt source.now.bytes.now cursor.new) }
+    requires heads { AreAt source.now.bytes.now heads.old }
+    ensures heads { OnOk result (AreAt source.now.bytes.now heads.new) }
     ensures lines { (f : FunctionTree) (s : SchemeTree)
         → slice_get (program_tree source.now.shaped.now).functions i ≡ Some f
         → slice_get (scheme_trees source.now.schemes.now) i ≡ Some s → MatchResult result
@@ -170,7 +169,7 @@ fn add_function(
     let program = source.shaped.program();
     add_scheme(source, program, i, text)?;
     match annotated(source.alloc, source.shaped, i, solved) {
-        Ok(()) => Ok(add_nodes(source, program, &solved.typed.nodes.items, cursor, text)?),
+        Ok(()) => Ok(add_nodes(source, program, &solved.typed.nodes.items, heads, text)?),
         Err(stop) => Err(stop),
     }
 }
@@ -201,16 +200,16 @@ fn add_nodes(
     source: &Source,
     program: &Program,
     nodes: &[NodeType],
-    cursor: &mut Cursor,
+    heads: &mut LineHeads,
     text: &mut Vec<u8>,
 ) -> Result<(), AllocError>
-    requires { IsAt source.now.bytes.now cursor.old }
-    ensures cursor { OnOk result (IsAt source.now.bytes.now cursor.new) }
+    requires { AreAt source.now.bytes.now heads.old }
+    ensures heads { OnOk result (AreAt source.now.bytes.now heads.new) }
     ensures lines { OnOk result (text.new.items ≡ text.old.items
         ++ node_lines source.now.bytes.now (program_tree program.now) (map typed_node nodes.now)) }
 {
     for node in nodes {
-        add_node(source, program, node, cursor, text)?;
+        add_node(source, program, node, heads, text)?;
     }
     Ok(())
 }
@@ -219,16 +218,15 @@ fn add_node(
     source: &Source,
     program: &Program,
     node: &NodeType,
-    cursor: &mut Cursor,
+    heads: &mut LineHeads,
     text: &mut Vec<u8>,
 ) -> Result<(), AllocError>
-    requires { IsAt source.now.bytes.now cursor.old }
-    ensures cursor { OnOk result (IsAt source.now.bytes.now cursor.new) }
+    requires { AreAt source.now.bytes.now heads.old }
+    ensures heads { OnOk result (AreAt source.now.bytes.now heads.new) }
     ensures line { OnOk result (text.new.items ≡ text.old.items
         ++ node_line source.now.bytes.now (program_tree program.now) (typed_node node.now)) }
 {
-    text.extend_from_slice(b"  ")?;
-    push_next_place(text, source.bytes, node.at, cursor)?;
+    heads.push_next(text, source.bytes, node.at)?;
     text.push(b' ')?;
     push_named_type(source.alloc, text, program, Variables::Letters, &node.ty)?;
     text.push(b'\n')?;

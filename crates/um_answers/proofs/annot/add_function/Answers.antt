@@ -1,4 +1,4 @@
-use Rattle.std.proofs.Common.{◌≡◌, ◌<◌, ◌++◌, ◌∙◌, append_assoc, arith, ap, length, map, slice_get, Some}
+use Rattle.std.proofs.Common.{◌<◌, ◌++◌, ◌∙◌, append_assoc, arith, ap, length, map, slice_get}
 use Rattle.std.proofs.lemmas.List.{length-map}
 use Rattle.um_tree.specs.declared.program.Program.{Program}
 use Rattle.um_tree.specs.ProgramTree.{program_tree, scheme_tree}

@@ -1,4 +1,4 @@
-use Rattle.std.proofs.Common.{◌≡◌, ◌+◌, ◌<◌, ◌∙◌, length, sym, ap, arith}
+use Rattle.std.proofs.Common.{◌+◌, ◌<◌, ◌∙◌, length, sym, ap, arith}
 use Rattle.std.proofs.lemmas.Grind.{drop_more_same}
 use Rattle.std.proofs.lemmas.List.{drop-set-lt, length-set, get_or_read}
 use Rattle.um_tree.specs.ProgramTree.{program_tree}
@@ -25,7 +25,7 @@ loop-i-preserved c =
     let schemes = scheme_trees c.args.source.now.schemes.now in
     let below : c.loop-i.i < length p.functions = omega (arith, c.loop-i-test.true, c.function_count-i-end.ensures.count) in
     let here = both_at p c.args.source.now.schemes.now.items.items c.function_count-i-end.ensures.formed c.requires.inferred c.loop-i.i below in (
-      c.in-Ok.ensures.cursor,
+      c.in-Ok.ensures.heads,
       listing_next c.args.source.now.bytes.now p schemes c.loop-i.i here.0 here.1 here.2 here.3 c.loop-i.text.items c.add_function.new.text.items c.loop-i.invariant.1
           (c.in-Ok.ensures.lines here.0 here.1 here.2 here.3),
       length-set c.loop-i.functions.items c.loop-i.i c.add_function.new.solved ∙ c.loop-i.invariant.2,
