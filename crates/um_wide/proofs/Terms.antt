@@ -1,15 +1,16 @@
 -- Terms as the code has them, and the units that they make.
-use Rattle.std.proofs.Common.{◌≡◌, ℕ, ◌<◌, true, false, cond, Some, List, [], ◌∷◌, ◌++◌, map, take, drop, length, ℤ, pos, ◌+ℤ◌, ◌*ℤ◌, refl, sym, ap, ◌∙◌, subst, arith}
+use Rattle.std.proofs.Common.{◌≡◌, ℕ, zero, suc, ◌+◌, ◌<◌, true, false, cond, Some, List, [], ◌∷◌, ◌++◌, map, take, drop, length, get_or, ℤ, pos, ◌+ℤ◌, ◌*ℤ◌, refl, sym, ap, ◌∙◌, subst, arith}
 use Rattle.std.specs.Prelude.{IsTrue, option_map}
 use Rattle.std.specs.List.{find}
+use Rattle.std.proofs.lemmas.Bool.{and_parts, and_from}
 use Rattle.std.proofs.lemmas.Int.{ints}
 use Rattle.std.proofs.lemmas.List.{take-append-drop}
 use Rattle.std.proofs.lemmas.List.Concat.{flat_map-append}
 use Rattle.um_units.specs.declared.Atom.{Atom}
 use Rattle.um_units.specs.declared.Term.{Term}
-use Rattle.um_units.specs.Atoms.{same_atom}
-use Rattle.um_units.specs.Terms.{indicator, power_in, is_normal, unless_zero}
-use Rattle.um_units.specs.NormalForm.{normal-unless_zero}
+use Rattle.um_units.specs.Atoms.{is_before, same_atom}
+use Rattle.um_units.specs.Terms.{indicator, power_in, is_before_all, is_normal, unless_zero}
+use Rattle.um_units.specs.NormalForm.{head_nonzero, head_before_all, tail_normal, cons_normal, before_all_trans, normal-unless_zero}
 use Rattle.um_units.specs.PowerMap.{PowerMap, product, one, atom, mul, scale, pow, image, images}
 use Rattle.um_units.proofs.Weights.{weigh-product, weigh-++, weigh-unless_zero}
 use Rattle.um_units.proofs.Equality.{same_unit, product-normal, product-of_terms}
@@ -71,3 +72,23 @@ images-halves s ts front back n e f =
     ∙ sym (weigh-++ (indicator x) (images s front) (images s back))
     ∙ ap (λ us. power_in us x) (sym (flat_map-append (λ t. map (scale t.power) (image s t.atom).terms) front back) ∙ ap (images s) (ap (λ us. us ++ back) e ∙ ap (λ us. take n ts ++ us) f ∙ take-append-drop n ts))
     ∙ sym (weigh-product (indicator x) (images s ts)))
+
+-- ---- one list after another
+pub no_terms : (ws : List WideTerm) → length ws < 1 → ws ≡ []
+no_terms [] h = refl
+no_terms (w ∷ ws) h = absurd (omega (arith, h))
+
+pub normal_after : (ws vs : List WideTerm) (i : ℕ) (d e : WideTerm) → i + 1 ≡ length ws → 0 < length vs → IsTrue (is_normal (as_terms ws)) → IsTrue (is_normal (as_terms vs)) →
+    IsTrue (is_before (get_or ws i d).atom (get_or vs 0 e).atom) → IsTrue (is_normal (as_terms ws ++ as_terms vs))
+normal_after [] vs i d e last some n m h = absurd (omega (arith, last))
+normal_after (w ∷ ws) [] i d e last some n m h = absurd (omega (arith, some))
+normal_after (w ∷ []) (v ∷ vs) zero d e last some n m h =
+    cons_normal (as_term w) (as_terms (v ∷ vs)) (head_nonzero (as_term w) [] n)
+    (and_from _ _ h (before_all_trans w.atom v.atom (as_terms vs) h (head_before_all (as_term v) (as_terms vs) m))) m
+normal_after (w ∷ []) (v ∷ vs) (suc i) d e last some n m h = absurd (omega (arith, last))
+normal_after (w ∷ x ∷ ws) (v ∷ vs) zero d e last some n m h = absurd (omega (arith, last))
+normal_after (w ∷ x ∷ ws) (v ∷ vs) (suc i) d e last some n m h =
+    let rest = normal_after (x ∷ ws) (v ∷ vs) i d e (omega (arith, last)) some (tail_normal (as_term w) (as_terms (x ∷ ws)) n) m h in
+    let first = (and_parts (is_before w.atom x.atom) (is_before_all w.atom (as_terms ws)) (head_before_all (as_term w) (as_terms (x ∷ ws)) n)).0 in
+    cons_normal (as_term w) (as_terms (x ∷ ws) ++ as_terms (v ∷ vs)) (head_nonzero (as_term w) (as_terms (x ∷ ws)) n)
+    (and_from _ _ first (before_all_trans w.atom x.atom (as_terms ws ++ as_terms (v ∷ vs)) first (head_before_all (as_term x) (as_terms ws ++ as_terms (v ∷ vs)) rest))) rest

@@ -10,8 +10,8 @@
 //! ```
 #![tactic(auto)]
 
-ghost use Rattle.std.specs.Prelude.{◌≡◌, ◌↔◌, ◌*◌, ◌^◌, IfOk, IsTrue, nat_abs};
-ghost use Rattle.um_units.specs.Atoms.{same_atom};
+ghost use Rattle.std.specs.Prelude.{◌≡◌, ◌↔◌, ◌*◌, ◌^◌, IfOk, OnErr, OnOk, IsTrue, nat_abs};
+ghost use Rattle.um_units.specs.Atoms.{is_before, same_atom};
 ghost use Rattle.um_units.specs.declared.Atom.TheVariants.{Base};
 ghost use Rattle.um_units.specs.PowerMap.{one, atom, mul, pow, power_of, replace, nth};
 ghost use Rattle.um_wide.specs.Room.{HaveRoom, IsNarrow, IsWithin};
@@ -21,7 +21,7 @@ mod images;
 mod merge;
 mod narrow;
 
-use merge::{scaled, widened};
+use merge::{multiply, scaled, widened};
 use narrow::are_narrow;
 use std::alloc::Global;
 use std::marker::Model;
@@ -35,6 +35,18 @@ pub fn is_base_unit(atom: Atom, n: u64) -> bool
     match atom {
         Atom::Base(m) => n == u64::from(m),
         Atom::Var(_) => false,
+    }
+}
+
+/// Whether the first atom comes before the second: base units come before variables, each kind by its number.
+pub fn comes_before(first: Atom, second: Atom) -> bool
+    ensures { result ≡ is_before first second }
+{
+    match (first, second) {
+        (Atom::Base(m), Atom::Base(n)) => m < n,
+        (Atom::Base(_), Atom::Var(_)) => true,
+        (Atom::Var(_), Atom::Base(_)) => false,
+        (Atom::Var(m), Atom::Var(n)) => m < n,
     }
 }
 
@@ -149,6 +161,21 @@ impl WideUnit {
     {
         let terms = scaled(alloc, &self.terms, k)?;
         Ok(WideUnit { terms })
+    }
+
+    /// Multiplies the unit by the other's k-th power. If the other's atoms come after all of this unit's, its terms are
+    /// added at the end, and the time that this takes depends on the other alone.
+    ///
+    /// With `NoMemory`, the one error, the unit stays as it is.
+    pub fn mul_power(&mut self, alloc: Global, other: &WideUnit, k: i64) -> Result<(), NoMemory>
+        requires narrow { IsNarrow other.now }
+        requires room { HaveRoom self.old (pow other.now k) }
+        ensures exact { OnOk result (self.new ≡ mul self.old (pow other.now k)) }
+        ensures unchanged { OnErr result (self.new ≡ self.old) }
+    {
+        let power = scaled(alloc, &other.terms, k)?;
+        multiply(alloc, &mut self.terms, &power)?;
+        Ok(())
     }
 
     /// Whether each power lies in -9223372036854775807..9223372036854775807. Takes no memory.
