@@ -1,5 +1,6 @@
 mod Limits
 mod Times
+mod Taken
 mod Loops
 mod AfterSteps
 mod StepEnds

@@ -16,7 +16,7 @@ ghost use Rattle.um_kept.specs.Answers.{Agrees, CarriesPower};
 ghost use Rattle.um_kept.specs.Steps.{ArePartsAfter, CarriesOneOf, CarriesOneOfParts};
 
 use crate::CertStop;
-use crate::past::{narrowed, times, unit_of};
+use crate::past::{first_past_of, narrowed, times, unit_of};
 use std::alloc::{AllocError, Global};
 use um_elim::ElimStep;
 use um_infer::generalised_unit;
@@ -154,8 +154,23 @@ fn end_units(alloc: Global, units: &mut Vec<Unit>, m: u32) -> Result<(), AllocEr
     Ok(())
 }
 
-/// The powers of rows of one slot if variable m to the power p became 1 and occurred in the slot's unit to the power e.
-fn slot_parts(
+/// Divides the powers of rows of one slot by those of the row to the power e, in place.
+fn take_row(alloc: Global, parts: &mut WideUnit, total: &WideUnit, e: i32) -> Result<(), CertStop>
+    requires parts { IsNarrow parts.old }
+    requires total { IsNarrow total.now }
+    ensures exact { OnOk result (parts.new ≡ mul parts.old (pow total.now (neg_ℤ e))) }
+    ensures narrow { MatchResult result (λ _. IsNarrow parts.new)
+        (CarriesPower 9223372036854775807 (mul parts.old (pow total.now (neg_ℤ e)))) }
+{
+    parts.mul_power(alloc, total, -i64::from(e))?;
+    match first_past_of(parts, total) {
+        None => Ok(()),
+        Some(number) => Err(CertStop::CertRange { number }),
+    }
+}
+
+/// The powers of rows of one slot to the power p, divided by those of the row to the power e.
+fn raised_parts(
     alloc: Global,
     parts: &WideUnit,
     p: i32,
@@ -168,10 +183,30 @@ fn slot_parts(
     ensures narrow { MatchResult result IsNarrow
         (CarriesPower 9223372036854775807 (mul (pow parts.now p) (pow total.now (neg_ℤ e)))) }
 {
-    let scaled = parts.pow(alloc, i64::from(p))?;
-    let taken = total.pow(alloc, -i64::from(e))?;
-    let sum = scaled.mul(alloc, &taken)?;
-    narrowed(sum)
+    let mut made = parts.pow(alloc, i64::from(p))?;
+    made.mul_power(alloc, total, -i64::from(e))?;
+    narrowed(made)
+}
+
+/// The powers of rows of one slot if variable m to the power p became 1 and occurred in the slot's unit to the power e.
+fn slot_parts(
+    alloc: Global,
+    parts: &mut WideUnit,
+    p: i32,
+    total: &WideUnit,
+    e: i32,
+) -> Result<(), CertStop>
+    requires parts { IsNarrow parts.old }
+    requires total { IsNarrow total.now }
+    ensures exact { OnOk result (parts.new ≡ mul (pow parts.old p) (pow total.now (neg_ℤ e))) }
+    ensures narrow { MatchResult result (λ _. IsNarrow parts.new)
+        (CarriesPower 9223372036854775807 (mul (pow parts.old p) (pow total.now (neg_ℤ e)))) }
+{
+    if p == 1 {
+        return take_row(alloc, parts, total, e);
+    }
+    *parts = raised_parts(alloc, parts, p, total, e)?;
+    Ok(())
 }
 
 /// Whether the powers of rows of a slot stay, if the variable that becomes 1 from the power p occurs in the slot's unit
@@ -205,8 +240,7 @@ fn end_parts(
         if stays(p, e) {
             continue;
         }
-        let made = slot_parts(alloc, &parts[j], p, total, e)?;
-        parts[j] = made;
+        slot_parts(alloc, &mut parts[j], p, total, e)?;
     }
     Ok(())
 }

@@ -1,7 +1,10 @@
 //! Numbers that overflow.
 
-ghost use Rattle.std.specs.Prelude.{◌≡◌, ◌<◌, ℤ, Option, Some, None, nat_abs, nat_lt, pos, MatchResult, IfOk};
-ghost use Rattle.um_units.specs.PowerMap.{mul, pow};
+ghost use Rattle.std.specs.Prelude.{◌≡◌, ◌≢◌, ◌<◌, ◌≤◌, ℤ, Option, Some, None, false, nat_abs, nat_lt, pos};
+ghost use Rattle.std.specs.Prelude.{MatchResult, IfOk};
+ghost use Rattle.um_units.specs.declared.Atom.{Atom as AtomData};
+ghost use Rattle.um_units.specs.Atoms.{is_before};
+ghost use Rattle.um_units.specs.PowerMap.{mul, pow, power_of};
 ghost use Rattle.um_units.specs.Range.{fits, RangeUnless};
 ghost use Rattle.um_wide.specs.Room.{IsNarrow, IsWithin};
 ghost use Rattle.um_kept.specs.Formed.{IsPowerIn};
@@ -9,8 +12,8 @@ ghost use Rattle.um_kept.specs.Answers.{CarriesPower};
 
 use crate::CertStop;
 use std::alloc::{AllocError, Global};
-use um_units::{Term, Unit, UnitStop};
-use um_wide::WideUnit;
+use um_units::{Atom, Term, Unit, UnitStop};
+use um_wide::{WideUnit, comes_before};
 
 /// The greatest absolute power of a unit.
 const MAX_POWER: i64 = 2147483647;
@@ -32,6 +35,38 @@ pub fn first_past(unit: &WideUnit, limit: i64) -> Option<i128>
         }
     }
     None
+}
+
+/// The first power of the unit outside 64 bits, of those of atoms that don't come before this one.
+fn first_past_from(unit: &WideUnit, first: Atom) -> Option<i128>
+    ensures none { result ≡ None → (x : AtomData) → is_before x first ≡ false
+        → nat_abs (power_of unit.now x) ≤ 9223372036854775807 }
+    ensures some { (z : ℤ) → result ≡ Some z → IsPowerIn z unit.now × (9223372036854775807 < nat_abs z) }
+{
+    let terms = unit.terms();
+    let mut found = None;
+    for i in (0..terms.len()).rev() {
+        let term = terms[i];
+        if comes_before(term.atom, first) {
+            return found;
+        }
+        if is_past(term.power, i64::MAX) {
+            found = Some(term.power);
+        }
+    }
+    found
+}
+
+/// The first power of the unit outside 64 bits, if there is none at an atom that the other unit doesn't hold.
+pub fn first_past_of(unit: &WideUnit, other: &WideUnit) -> Option<i128>
+    ensures none { result ≡ None → (x : AtomData) → power_of other.now x ≢ pos 0
+        → nat_abs (power_of unit.now x) ≤ 9223372036854775807 }
+    ensures some { (z : ℤ) → result ≡ Some z → IsPowerIn z unit.now × (9223372036854775807 < nat_abs z) }
+{
+    match other.terms() {
+        [] => None,
+        [first, ..] => first_past_from(unit, first.atom),
+    }
 }
 
 /// The unit, whose powers are to lie in 64 bits.

@@ -44,10 +44,10 @@ slot_parts-requires-clause-parts c =
     let now = c.loop-j.parts.items in
     let j = c.loop-j.j in
     let here : j < length now = (let n = c.loop-j.invariant.count in let k = c.requires.count in let l = c.loop-j-test.true in omega (arith, n, k, l)) in
-    subst IsNarrow (sym (get_or_read now j _ here c.index.ensures one)) (All-get_or IsNarrow now j one here c.loop-j.invariant.narrow)
+    subst IsNarrow (sym (get_or_read now j _ here c.index_mut.ensures.value one)) (All-get_or IsNarrow now j one here c.loop-j.invariant.narrow)
 
-pub returns-in_err-made-clause-range : goal.returns-in_err-made-clause-range
-returns-in_err-made-clause-range c =
+pub returns-in_err-slot_parts-clause-range : goal.returns-in_err-slot_parts-clause-range
+returns-in_err-slot_parts-clause-range c =
     let x = err_from_is_err_and c.from_residual.result c.from_residual.ensures.1 in
     let solution = c.args.solution.now in
     let old = c.args.parts.now.items in
@@ -59,11 +59,11 @@ returns-in_err-made-clause-range c =
     let inside : j < length old = (let k = c.requires.count in omega (arith, k, l)) in
     let here : j < length now = (let n = c.loop-j.invariant.count in omega (arith, n, inside)) in
     let unit : c.index-solution-j.result ≡ nth solution j = c.index-solution-j.is ∙ get_or_default solution j c.index-solution-j.result (atom (Var j)) l in
-    let part : c.index.result.now ≡ slice_index_or old j one = get_or_read now j _ here c.index.ensures one ∙ c.loop-j.invariant.rest j (omega arith) in
+    let part : c.index_mut.result.now ≡ slice_index_or old j one = get_or_read now j _ here c.index_mut.ensures.value one ∙ c.loop-j.invariant.rest j (omega arith) in
     let e = c.power_of-e.result in
-    let made = made_at solution old m j p (to_z w32 (of_z w32 p)) e (to_z w32 (of_z w32 e)) c.args.total.now c.index.result.now c.index-solution-j.result c.requires.p (to_z-of_z w32 p c.ranges.p) part unit
+    let made = made_at solution old m j p (to_z w32 (of_z w32 p)) e (to_z w32 (of_z w32 e)) c.args.total.now c.index_mut.result.now c.index-solution-j.result c.requires.p (to_z-of_z w32 p c.ranges.p) part unit
     (to_z-of_z w32 e (record { sfits = c.power_of-e.type_inv })) c.power_of-e.ensures.power in
-    rw (x.1, x.2) (part_stops m (nat_abs p) c.args.total.now solution old j c.in_err-made.field-0.0 inside (subst (λ u. CarriesPower 9223372036854775807 u c.in_err-made.field-0.0) made c.in_err-made.ensures.narrow))
+    rw (x.1, x.2) (part_stops m (nat_abs p) c.args.total.now solution old j c.in_err-slot_parts.field-0.0 inside (subst (λ u. CarriesPower 9223372036854775807 u c.in_err-slot_parts.field-0.0) made c.in_err-slot_parts.ensures.narrow))
 
 pub loop-j-preserved : goal.loop-j-preserved
 loop-j-preserved c =
@@ -78,15 +78,15 @@ loop-j-preserved c =
     let inside : j < length old = (let k = c.requires.count in omega (arith, k, l)) in
     let here : j < length now = (let n = c.loop-j.invariant.count in omega (arith, n, inside)) in
     let unit : c.index-solution-j.result ≡ nth solution j = c.index-solution-j.is ∙ get_or_default solution j c.index-solution-j.result (atom (Var j)) l in
-    let part : c.index.result.now ≡ slice_index_or old j one = get_or_read now j _ here c.index.ensures one ∙ c.loop-j.invariant.rest j (omega arith) in
+    let part : c.index_mut.result.now ≡ slice_index_or old j one = get_or_read now j _ here c.index_mut.ensures.value one ∙ c.loop-j.invariant.rest j (omega arith) in
     let e = c.power_of-e.result in
-    let made = made_at solution old m j p p e (to_z w32 (of_z w32 e)) c.args.total.now c.index.result.now c.index-solution-j.result (subst (λ z. pos 0 <ℤ z) (sym exact) c.requires.p) refl part unit
+    let made = made_at solution old m j p p e (to_z w32 (of_z w32 e)) c.args.total.now c.index_mut.result.now c.index-solution-j.result (subst (λ z. pos 0 <ℤ z) (sym exact) c.requires.p) refl part unit
     (to_z-of_z w32 e (record { sfits = c.power_of-e.type_inv })) c.power_of-e.ensures.power in
     record {
-      count = length-set now j c.in_ok-made.made ∙ c.loop-j.invariant.count;
-      done = set_done now old j c.in_ok-made.made one (parts_at m (nat_abs p) c.args.total.now solution old) here (c.in_ok-made.ensures.exact ∙ made) c.loop-j.invariant.done;
-      rest = set_rest now old j c.in_ok-made.made one c.loop-j.invariant.rest;
-      narrow = All-set IsNarrow now j c.in_ok-made.made c.in_ok-made.ensures.narrow c.loop-j.invariant.narrow;
+      count = length-set now j c.slot_parts.new.parts ∙ c.loop-j.invariant.count;
+      done = set_done now old j c.slot_parts.new.parts one (parts_at m (nat_abs p) c.args.total.now solution old) here (c.in_ok-slot_parts.ensures.exact ∙ made) c.loop-j.invariant.done;
+      rest = set_rest now old j c.slot_parts.new.parts one c.loop-j.invariant.rest;
+      narrow = All-set IsNarrow now j c.slot_parts.new.parts c.in_ok-slot_parts.ensures.narrow c.loop-j.invariant.narrow;
     }
 
 pub loop-j-preserved-then-stays : goal.loop-j-preserved-then-stays
