@@ -10,7 +10,7 @@ use Rattle.um_expected.specs.declared.tell.Tried.{Tried}
 use Rattle.um_expected.specs.Words.{is_operator}
 use Rattle.um_expected.specs.Expected.{Place, CanStand, NumberCanStand, IsPower, FractionCanStand, TwoCanStand}
 use Rattle.um_expected.specs.Expected.{OneCanStand, AllOperatorsStand, IsExpected}
-use Rattle.um_expected.specs.Trials.{IsTried, number_told, whole_told, one_told, told_alone}
+use Rattle.um_expected.specs.Trials.{IsTried, number_told, whole_told, one_told}
 
 clash : false ≡ true → ⊥
 clash e = cc
@@ -59,33 +59,42 @@ module _ (P F W O : Type 0) where
       ((λ e. ((λ x. clash (p.1 x)), (λ x. clash (f.1 x)), (λ x. clash (w.1 x)), o.0 refl)), (λ x. refl))
   one_by false false false false p f w o = ((λ e. absurd (clash e)), (λ x. o.1 x.3))
 
--- a sign that isn't one of the operators, or not all of them stand
-alone_by : (A S : Type 0) (all operator stands : Bool) → Decides all A → Decides stands S
-    → Decides (not (all && operator) && stands) ((A → operator ≡ false) × S)
-alone_by A S true true stands a s = ((λ e. absurd (clash e)), (λ x. absurd (clash (sym (x.0 (a.0 refl))))))
-alone_by A S true false true a s = ((λ e. ((λ y. refl), s.0 refl)), (λ x. refl))
-alone_by A S true false false a s = ((λ e. absurd (clash e)), (λ x. s.1 x.1))
-alone_by A S false operator true a s = ((λ e. ((λ y. absurd (clash (a.1 y))), s.0 refl)), (λ x. refl))
-alone_by A S false operator false a s = ((λ e. absurd (clash e)), (λ x. s.1 x.1))
+-- an operator, where all of them stand
+alone_never : (A S : Type 0) (all operator : Bool) → Decides all A → all && operator ≡ true → Decides false ((A → operator ≡ false) × S)
+alone_never A S true true a h = ((λ e. absurd (clash e)), (λ x. absurd (clash (sym (x.0 (a.0 refl))))))
+alone_never A S true false a h = absurd (clash h)
+alone_never A S false operator a h = absurd (clash h)
+
+-- a sign that isn't one of them, or not all of them stand
+alone_by : (A S : Type 0) (all operator stands : Bool) → Decides all A → all && operator ≡ false → Decides stands S
+    → Decides stands ((A → operator ≡ false) × S)
+alone_by A S true true stands a h s = absurd (clash (sym h))
+alone_by A S true false true a h s = ((λ e. ((λ y. refl), s.0 refl)), (λ x. refl))
+alone_by A S true false false a h s = ((λ e. absurd (clash e)), (λ x. s.1 x.1))
+alone_by A S false operator true a h s = ((λ e. ((λ y. absurd (clash (a.1 y))), s.0 refl)), (λ x. refl))
+alone_by A S false operator false a h s = ((λ e. absurd (clash e)), (λ x. s.1 x.1))
 
 -- ---- the words
 
-module _ (p : Place) (t : Tried) (h : IsTried p t) where
+module _ (p : Place) (t : Tried) (tried : IsTried p t) where
   power : Decides t.power (IsPower p)
-  power = ((λ e. sym h.power ∙ e), (λ e. h.power ∙ e))
+  power = ((λ e. sym tried.power ∙ e), (λ e. tried.power ∙ e))
 
   pub number_is_told : Decides (number_told t) (IsExpected p word.Number)
-  number_is_told = number_by (IsPower p) (FractionCanStand p) (TwoCanStand p) (OneCanStand p) t.power t.fraction power h.fraction
+  number_is_told = number_by (IsPower p) (FractionCanStand p) (TwoCanStand p) (OneCanStand p) t.power t.fraction power tried.fraction
 
   pub whole_is_told : Decides (whole_told t) (IsExpected p word.Whole)
   whole_is_told =
-      whole_by (IsPower p) (FractionCanStand p) (TwoCanStand p) (OneCanStand p) t.power t.fraction t.two power h.fraction h.two
+      whole_by (IsPower p) (FractionCanStand p) (TwoCanStand p) (OneCanStand p) t.power t.fraction t.two power tried.fraction tried.two
 
   pub one_is_told : Decides (one_told t) (IsExpected p word.One)
   one_is_told =
-      one_by (IsPower p) (FractionCanStand p) (TwoCanStand p) (OneCanStand p) t.power t.fraction t.two t.one power h.fraction h.two h.one
+      one_by (IsPower p) (FractionCanStand p) (TwoCanStand p) (OneCanStand p) t.power t.fraction t.two t.one power tried.fraction tried.two tried.one
 
-  pub sign_is_told : (s : Symbol) (stands : Bool) → Decides stands (CanStand p (kind.Sign s))
-      → Decides (told_alone t.operators (is_operator s) stands) (IsExpected p (word.Sign s))
-  sign_is_told s stands d =
-      alone_by (AllOperatorsStand p) (CanStand p (kind.Sign s)) t.operators (is_operator s) stands h.operators d
+  pub operator_not_told : (s : Symbol) → t.operators && is_operator s ≡ true → Decides false (IsExpected p (word.Sign s))
+  operator_not_told s h = alone_never (AllOperatorsStand p) (CanStand p (kind.Sign s)) t.operators (is_operator s) tried.operators h
+
+  pub sign_is_told : (s : Symbol) (stands : Bool) → t.operators && is_operator s ≡ false → Decides stands (CanStand p (kind.Sign s))
+      → Decides stands (IsExpected p (word.Sign s))
+  sign_is_told s stands h d =
+      alone_by (AllOperatorsStand p) (CanStand p (kind.Sign s)) t.operators (is_operator s) stands tried.operators h d

@@ -42,10 +42,6 @@ whole_told t = (t.power || not t.fraction) && t.two
 abbrev pub one_told : Tried → Bool
 one_told t = not t.power && (not t.fraction && (not t.two && t.one))
 
--- a sign that stands, unless it is an operator and all of them stand
-abbrev pub told_alone : Bool → Bool → Bool → Bool
-told_alone all operator stands = not (all && operator) && stands
-
 -- ---- what parsing answers
 
 -- whether the tokens begin a program, of which the last stands at this place; nothing after want of memory

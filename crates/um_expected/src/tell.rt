@@ -1,5 +1,5 @@
 //! The words that could stand at a place.
-ghost use Rattle.std.specs.Prelude.{◌≡◌, ◌≤◌, ◌<◌, ◌++◌, ◌∷◌, [], ℤ, cond, length, option_copied, IfOk, OnOk};
+ghost use Rattle.std.specs.Prelude.{◌≡◌, ◌≤◌, ◌<◌, ◌&&◌, ◌++◌, ◌∷◌, [], ℤ, cond, length, option_copied, IfOk, OnOk};
 ghost use Rattle.std.specs.Bool.{Decides};
 ghost use Rattle.um_frac.specs.Fraction.{reduced};
 ghost use Rattle.um_syntax.specs.Lexing.{is_power_place, is_caret, is_minus};
@@ -9,7 +9,8 @@ ghost use Rattle.um_parse.specs.DeclGrammar.{IsProgram};
 ghost use Rattle.um_parse.specs.ProgramHeights.{program_height};
 ghost use Rattle.um_expected.specs.Expected.{AreExpected, IsExpected, NumberCanStand, AllOperatorsStand};
 ghost use Rattle.um_expected.specs.declared.word.Word.TheVariants as word;
-ghost use Rattle.um_expected.specs.Trials.{IsTried, number_told, one_told, told_alone, whole_told};
+ghost use Rattle.um_expected.specs.Trials.{IsTried, number_told, one_told, whole_told};
+ghost use Rattle.um_expected.specs.Words.{is_operator};
 
 use crate::part::last_part;
 use crate::trial::Trial;
@@ -249,13 +250,15 @@ fn is_sign_told(
     ensures same { trial.new ≡ trial.old }
     ensures told { IfOk result (λ told. Decides told (IsExpected trial.old (word.Sign sign))) }
 {
-    let stands = trial.takes(alloc, Kind::Sign(sign))?;
-    Ok(is_told_alone(tried.operators, is_operator(sign), stands))
+    if is_among_operators(tried.operators, sign) {
+        return Ok(false);
+    }
+    trial.takes(alloc, Kind::Sign(sign))
 }
 
-/// Whether a sign that stands or not is told by itself.
-fn is_told_alone(all: bool, operator: bool, stands: bool) -> bool
-    ensures { result ≡ told_alone all operator stands }
+/// Whether the sign is an operator and all operators stand, so that they are told in one word.
+fn is_among_operators(all: bool, sign: Symbol) -> bool
+    ensures { result ≡ all && is_operator sign }
 {
-    !(all && operator) && stands
+    all && is_operator(sign)
 }
