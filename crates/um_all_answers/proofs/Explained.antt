@@ -1,6 +1,7 @@
 -- What follows the report line of a text that is refused, stage by stage, and so the answer to `explain`.
 use Rattle.std.proofs.Common.{◌≡◌, ◌≢◌, ◌⊎◌, inl, inr, ℕ, true, false, List, ◌++◌, length, take, refl, sym, ap, subst}
 use Rattle.std.specs.Prelude.{slice_get, Err}
+use Rattle.um_elim.proofs.Cases.{on_test}
 use Rattle.um_syntax.specs.declared.token.Token.{Token}
 use Rattle.um_syntax.specs.declared.token.TextStop.{TextStop}
 use Rattle.um_syntax.specs.declared.token.TextStop.TheVariants as text_stop
@@ -44,7 +45,6 @@ use Rattle.um_explain_answers.specs.Stages.{AfterShapes, FollowsLine}
 use Rattle.um_explain_answers.specs.ExplainAnswer.{is_explained, Explains, ExplainAnswer}
 use Rattle.um_each_answer.specs.Answered.{HasAnswer}
 use Rattle.um_each_answer.specs.Laws.{EachTextHasStages}
-use Rattle.um_each_answer.proofs.Texts.{on_test}
 use Rattle.um_all_answers.proofs.Expected.{expected}
 
 -- some text is this

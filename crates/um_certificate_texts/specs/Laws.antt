@@ -62,8 +62,8 @@ TextsDetermineCertificates =
     All (IsNamed (length p.bases)) others → All FitsYes others → FitsRefusal other →
     certificates_text p list refusal ≡ certificates_text p others other → (list ≡ others) × (refusal ≡ other)
 
--- Valid and tidy certificates of a formed program, as `prove` makes them, are the same if their texts are. Their numbers
--- must fit into their fields.
+-- Valid and tidy certificates of a formed program, as `prove` makes them, are the same if their texts are. Their
+-- numbers must fit into their fields.
 abbrev pub TextsDetermineProofs : Type 0
 TextsDetermineProofs =
     (p : ProgramTree) (proofs others : Proofs) → IsFormed p →

@@ -32,7 +32,8 @@ impl Model for Draft {
 }
 
 impl Draft {
-    ghost use Rattle.std.specs.Prelude.{◌≡◌, ◌≤◌, ◌<◌, ◌+◌, ◌++◌, ◌∷◌, [], length, take, drop, replicate, slice_range, OnOk};
+    ghost use Rattle.std.specs.Prelude.{◌≡◌, ◌≤◌, ◌<◌, ◌+◌, ◌++◌, ◌∷◌, [], length, take, drop, replicate, slice_range};
+    ghost use Rattle.std.specs.Prelude.{OnOk};
 
     /// Nothing was written. Takes no memory.
     pub fn new(alloc: Global) -> Draft

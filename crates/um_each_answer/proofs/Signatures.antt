@@ -3,6 +3,7 @@
 use Rattle.std.proofs.Common.{◌≡◌, ◌≢◌, ◌⊎◌, inl, inr, ℕ, zero, suc, ◌+◌, ◌-◌, ◌*◌, ◌≤◌, ◌<◌, List, [], ◌∷◌, ◌++◌, length, Option, Some, None, refl, sym, ap, ◌∙◌, arith, length-append}
 use Rattle.std.specs.Prelude.{Result, Ok, Err}
 use Rattle.std.specs.Str.{chars, chars_after, continuation_len, lead_bits}
+use Rattle.um_elim.proofs.Cases.{on_test}
 use Rattle.um_syntax.specs.declared.token.Token.{Token}
 use Rattle.um_syntax.specs.declared.token.Kind.{Kind}
 use Rattle.um_syntax.specs.declared.token.Kind.TheVariants as kind
@@ -44,7 +45,7 @@ use Rattle.um_sig.specs.Instances.{scheme_types}
 use Rattle.um_sig.specs.Answers.{IsConformed}
 use Rattle.um_sig.proofs.FormLaws.{form-same, same-form}
 use Rattle.um_sig.proofs.NeverTwice.{signature_is_never_twice}
-use Rattle.um_each_answer.proofs.Texts.{on_test, no_memory}
+use Rattle.um_each_answer.proofs.Texts.{no_memory}
 use Rattle.um_each_answer.proofs.Values.{kept_are, kept_types}
 
 -- ---- a signature has no more types than its text has bytes

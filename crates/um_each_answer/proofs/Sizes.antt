@@ -5,13 +5,13 @@ use Rattle.std.specs.Prelude.{◌||◌, IsTrue, is_some, slice_get, Ok, Err}
 use Rattle.std.specs.Str.{bytes_eq}
 use Rattle.std.proofs.lemmas.Slice.Eq.{bytes_eq-Decides}
 use lib.Signed.{le_z_yes}
+use Rattle.um_elim.proofs.Cases.{on_test}
 use Rattle.um_frac.specs.declared.number.Frac.{Frac}
 use Rattle.um_frac.proofs.Gcd.{gcd-one}
 use Rattle.um_measures.specs.Known.{is_among}
 use Rattle.um_sizes.specs.declared.read.ScalesRefusal.TheVariants.{NoBaseUnit}
 use Rattle.um_sizes.specs.ScaleWords.{names_of, scales_in, is_scales}
 use Rattle.um_sizes.specs.BaseSizes.{are_bases, IsSizeOf, AreSizesOf, AreScalesRead}
-use Rattle.um_each_answer.proofs.Texts.{on_test}
 
 -- the size 1
 abbrev size_one : Frac

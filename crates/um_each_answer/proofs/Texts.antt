@@ -4,6 +4,7 @@ use Rattle.std.specs.Str.{IsUtf8, IsValidUpTo, is_utf8}
 use Rattle.std.proofs.lemmas.Str.{IsUtf8-nil, IsUtf8-from_is_utf8, is_utf8-from_IsUtf8}
 use Rattle.std.proofs.lemmas.Bool.Decides.{nat_tests}
 use Rattle.std.proofs.lemmas.List.{take_all}
+use Rattle.um_elim.proofs.Cases.{on_test}
 use Rattle.um_syntax.specs.declared.token.Token.{Token}
 use Rattle.um_syntax.specs.declared.token.LexStop.{LexStop}
 use Rattle.um_syntax.specs.declared.token.LexStop.TheVariants as lex
@@ -22,9 +23,6 @@ use Rattle.um_reports.specs.Refusals.{placed, limit_label}
 use Rattle.um_front.specs.Refused.{IsUnread}
 use Rattle.um_each_answer.specs.Answered.{HasAnswer, IsReadOrRefused}
 use Rattle.um_each_answer.specs.Laws.{EachTextIsReadOrRefused}
-
-pub on_test : (b : Bool) {P : Type 0} → (b ≡ true → P) → (b ≡ false → P) → P
-on_test b {P} then other = elim b as (λ v. b ≡ v → P) [ true ↦ then | false ↦ other ] refl
 
 pub within : (a b : ℕ) → nat_le a b ≡ true → a ≤ b
 within a b t = grind (arith, nat_tests)

@@ -1,6 +1,7 @@
 -- What is said of a call of a text's program, by each command that calls a function.
 use Rattle.std.proofs.Common.{◌≡◌, ◌≢◌, inl, inr, ℕ, zero, suc, List, [], ◌∷◌, codes, get_or, Option, Some, None, refl, sym, ap, ◌∙◌}
 use Rattle.std.specs.Prelude.{◌-◌, Result, Ok, Err}
+use Rattle.um_elim.proofs.Cases.{on_test}
 use Rattle.um_frac.specs.declared.number.Trap.{Trap}
 use Rattle.um_syntax.specs.Laws.{EachTextIsAnswered}
 use Rattle.um_tree.specs.ValueTree.{ValueTree, OutcomeTree, value_outcome, trap_outcome, budget_outcome}
@@ -45,7 +46,6 @@ use Rattle.um_trace_answers.specs.TraceText.{stop_label, trace_text}
 use Rattle.um_trace_answers.specs.TraceAnswer.{IsStopTold, IsTracedEnd, TracedRun, IsTraceAnswer, TraceAnswer}
 use Rattle.um_display_answers.specs.ShowAnswer.{IsDisplayedEnd, DisplayedRun, ByUnits, IsShowAnswer, ShowAnswer}
 use Rattle.um_each_answer.specs.Laws.{EachTextHasStages}
-use Rattle.um_each_answer.proofs.Texts.{on_test}
 use Rattle.um_each_answer.proofs.Answers.{Told, of_checked}
 use Rattle.um_each_call.specs.Laws.{CallsHaveAnswers, TracesHaveAnswers, DisplaysHaveAnswers, GeneratedProgramsHaveAnswers}
 use Rattle.um_each_call.proofs.Named.{call_or_refusal}

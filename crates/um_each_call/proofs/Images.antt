@@ -3,6 +3,7 @@ use Rattle.std.proofs.Common.{◌≡◌, ◌≢◌, inl, inr, ℕ, ◌≤◌, �
 use Rattle.std.specs.Prelude.{Result, Ok, Err}
 use Rattle.std.proofs.lemmas.List.{length-map}
 use Rattle.std.proofs.lemmas.List.Elements.{All-head, All-tail}
+use Rattle.um_elim.proofs.Cases.{on_test}
 use Rattle.um_syntax.specs.Laws.{EachTextIsAnswered}
 use Rattle.um_tree.specs.TypeTree.{ShapeTree}
 use Rattle.um_tree.specs.Formed.{IsFormed}
@@ -29,7 +30,7 @@ use Rattle.um_reports.specs.CallRefusals.{IsCallReply}
 use Rattle.um_reports.specs.Steps.{line}
 use Rattle.um_call_answers.specs.AskedCall.{AskedCall}
 use Rattle.um_call_answers.specs.ExecAnswer.{IsVerifyReply, ImageRunAnswer, ByImageCall, VerifiedAnswer, DecodedAnswer, BytesAnswer, ExecAnswer}
-use Rattle.um_each_answer.proofs.Texts.{on_test, within, beyond}
+use Rattle.um_each_answer.proofs.Texts.{within, beyond}
 use Rattle.um_each_answer.proofs.Answers.{Told}
 use Rattle.um_each_image.specs.Laws.{ImagesAreVerifiedOrRefused}
 use Rattle.um_each_call.specs.Laws.{ImagesHaveAnswers}

@@ -2,6 +2,7 @@
 use Rattle.std.proofs.Common.{inl, inr, ℕ, nat_le, List, [], ◌∷◌, ◌++◌, codes, length, refl, sym, ◌∙◌, arith}
 use Rattle.std.specs.Str.{is_utf8}
 use Rattle.std.proofs.lemmas.Str.{IsUtf8-from_is_utf8, is_utf8-from_IsUtf8}
+use Rattle.um_elim.proofs.Cases.{on_test}
 use Rattle.um_syntax.specs.Laws.{EachTextIsAnswered}
 use Rattle.um_shape.specs.Laws.{FaultlessIsShaped}
 use Rattle.um_gen.specs.Laws.{CodeEndsAsMeant}
@@ -13,7 +14,7 @@ use Rattle.um_call_answers.specs.declared.way.Way.TheVariants as way
 use Rattle.um_call_answers.specs.CallsAnswer.{call_by, are_short, IsLineAnswer, AreLineAnswers, AreCallsAnswers, SourceAnswer, CallsAnswer}
 use Rattle.um_each_answer.specs.Answered.{HasAnswer}
 use Rattle.um_each_answer.specs.Laws.{EachTextHasStages}
-use Rattle.um_each_answer.proofs.Texts.{on_test, within, beyond}
+use Rattle.um_each_answer.proofs.Texts.{within, beyond}
 use Rattle.um_each_answer.proofs.Answers.{of_checked}
 use Rattle.um_each_call.specs.Laws.{SourcesHaveAnswers}
 use Rattle.um_each_call.proofs.Calls.{call_told}

@@ -4,6 +4,7 @@ use Rattle.std.specs.Prelude.{Result, Ok, Err}
 use Rattle.std.proofs.lemmas.Bool.Decides.{nat_tests}
 use Rattle.std.proofs.lemmas.List.{length-map}
 use Rattle.std.proofs.lemmas.List.Elements.{All-head, All-tail}
+use Rattle.um_elim.proofs.Cases.{on_test}
 use Rattle.um_syntax.specs.Laws.{EachTextIsAnswered}
 use Rattle.um_tree.specs.TypeTree.{NoteTree, bool_note, num_note, list_note, record_note}
 use Rattle.um_tree.specs.ValueTree.{InputTree, inputs_in_order}
@@ -22,7 +23,6 @@ use Rattle.um_infer.proofs.SchemeLists.{item_at}
 use Rattle.um_run.specs.declared.call.CallRefusal.{CallRefusal}
 use Rattle.um_run.specs.declared.call.CallRefusal.TheVariants as refusal
 use Rattle.um_run.specs.Calls.{CallTree, AreInputs, parameter_shapes, IsNamed, IsCallOf}
-use Rattle.um_each_answer.proofs.Texts.{on_test}
 use Rattle.um_each_call.proofs.Arguments.{AreShapesIn, InputsOrRefusal, inputs_or_refusal}
 
 -- ---- the shapes of parameters name records of the program

@@ -1,5 +1,6 @@
 -- A call of a shaped program has an outcome at each budget, and so has the same call in other sizes. Each outcome is told.
 use Rattle.std.proofs.Common.{◌≡◌, inl, inr, ℕ, List, ◌++◌, codes, Option, Some, None, refl, sym, subst, ◌∙◌}
+use Rattle.um_elim.proofs.Cases.{on_test}
 use Rattle.um_tree.specs.TypeTree.{TypeTree}
 use Rattle.um_tree.specs.ValueTree.{ValueTree, values_in_order, OutcomeTree, value_outcome, trap_outcome, budget_outcome}
 use Rattle.um_tree.specs.ProgramTree.{ProgramTree}
@@ -19,7 +20,6 @@ use Rattle.um_reports.specs.Steps.{line}
 use Rattle.um_call_answers.specs.declared.way.Way.{Way}
 use Rattle.um_call_answers.specs.declared.way.Way.TheVariants as way
 use Rattle.um_call_answers.specs.CallAnswer.{steps_text, IsValueReply, IsOutcomeReply, EndsBy}
-use Rattle.um_each_answer.proofs.Texts.{on_test}
 use Rattle.um_each_answer.proofs.Answers.{Told}
 use Rattle.um_each_call.proofs.Steps.{steps_are_counted}
 

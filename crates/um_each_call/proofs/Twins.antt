@@ -1,6 +1,7 @@
 -- A call in two sizes of the base units has both outcomes.
 use Rattle.std.proofs.Common.{◌≡◌, inl, inr, ℕ, ◌+◌, List, ◌++◌, codes, decimal, map, Option, Some, None, MatchOption, refl, sym, subst, ◌∙◌}
 use Rattle.std.specs.Prelude.{Ok, Err}
+use Rattle.um_elim.proofs.Cases.{on_test}
 use Rattle.um_frac.specs.declared.number.Frac.{Frac}
 use Rattle.um_tree.specs.TypeTree.{TypeTree}
 use Rattle.um_tree.specs.ValueTree.{ValueTree, OutcomeTree, value_outcome, trap_outcome, budget_outcome}
@@ -33,7 +34,6 @@ use Rattle.um_call_answers.specs.OfCall.{IsAskedCall}
 use Rattle.um_call_answers.specs.TwinAnswer.{IsSecondReply, AreValueReplies, BySecond, AreOutcomeReplies, rescaled_values, TwinRunAnswer, misfit_among, InputsAnswer, TwinLiteralsAnswer, SizedAnswer, IsTwinAnswer, TwinAnswer}
 use Rattle.um_call_answers.proofs.TwinArguments.{all_fit}
 use Rattle.um_each_answer.specs.Laws.{EachTextHasStages}
-use Rattle.um_each_answer.proofs.Texts.{on_test}
 use Rattle.um_each_answer.proofs.Answers.{Told, of_checked}
 use Rattle.um_each_answer.proofs.Sizes.{SizesOrRefusal, sizes_or_refusal}
 use Rattle.um_each_call.specs.Laws.{TwinsHaveAnswers}

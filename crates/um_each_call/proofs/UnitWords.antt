@@ -6,6 +6,7 @@ use Rattle.std.specs.Str.{chars, bytes_eq}
 use Rattle.std.specs.Str.Iter.{HasSubslice}
 use Rattle.std.proofs.lemmas.Bool.Decides.{nat_tests}
 use Rattle.std.proofs.lemmas.Slice.Eq.{bytes_eq-Decides}
+use Rattle.um_elim.proofs.Cases.{on_test}
 use Rattle.um_frac.specs.declared.number.Frac.{Frac}
 use Rattle.um_syntax.specs.declared.token.Token.{Token}
 use Rattle.um_syntax.specs.declared.token.LexStop.{LexStop}
@@ -28,7 +29,7 @@ use Rattle.um_unit_texts.specs.UnitLeast.{machine_of_units}
 use Rattle.um_types.proofs.ReaderLaws.{units_read}
 use Rattle.um_display.specs.UnitWords.{is_other_white, is_space_at, IsPlain, one_space_each, PartSyntax, IsLowUnit, name_in, positive_in, are_marks, IsNamed, IsSized, IsPartOf, IsPart, texts_in, ArePartsOf, IsUnitWord}
 use Rattle.um_display.proofs.SizedParts.{sized_as, cut_at_items}
-use Rattle.um_each_answer.proofs.Texts.{on_test, within, beyond}
+use Rattle.um_each_answer.proofs.Texts.{within, beyond}
 use Rattle.um_each_call.specs.Laws.{UnitWordsAreDecided}
 
 -- one of these has the property, or none has

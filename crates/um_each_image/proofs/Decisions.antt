@@ -7,9 +7,6 @@ use Rattle.std.proofs.lemmas.List.Elements.{All-nil, All-cons, All-head, All-tai
 abbrev pub Dec : Type 0 → Type 0
 Dec P = P ⊎ (P → ⊥)
 
-pub on_test : (b : Bool) {P : Type 0} → (b ≡ true → P) → (b ≡ false → P) → P
-on_test b {P} then other = elim b as (λ v. b ≡ v → P) [ true ↦ then | false ↦ other ] refl
-
 module _ {P Q : Type 0} where
   pub both : Dec P → Dec Q → Dec (P × Q)
   both (inl p) (inl q) = inl (p, q)

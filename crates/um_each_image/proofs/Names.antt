@@ -5,10 +5,11 @@ use Rattle.std.specs.List.{list_any}
 use Rattle.std.specs.Str.{IsUtf8, is_utf8, chars, bytes_eq}
 use Rattle.std.proofs.lemmas.Str.{IsUtf8-from_is_utf8, is_utf8-from_IsUtf8}
 use Rattle.std.proofs.lemmas.Slice.Eq.{bytes_eq-Decides}
+use Rattle.um_elim.proofs.Cases.{on_test}
 use Rattle.um_tree.specs.Formed.{IsNameBytes, AreDistinct}
 use Rattle.um_verifier.specs.Names.{reads, no_names, is_one_of}
 use Rattle.um_verifier.proofs.NameTests.{no_text, text_test}
-use Rattle.um_each_image.proofs.Decisions.{Dec, on_test, as_well, both, is_test}
+use Rattle.um_each_image.proofs.Decisions.{Dec, as_well, both, is_test}
 
 by_match : {P : Type 0} (b : Bool) → MatchBool b P (P → ⊥) → Dec P
 by_match true p = inl p

@@ -25,7 +25,8 @@ pub fn put_in_type(alloc: Global, by: &[Unit], ty: &Ty) -> Result<Ty, UnitStop>
     }
 }
 
-/// Whether `by` puts for each atom of the type that atom itself. Then `put_in_type` gives an equal type. Takes no memory.
+/// Whether `by` puts for each atom of the type that atom itself. Then `put_in_type` gives an equal type. Takes no
+/// memory.
 pub fn stays_in_type(by: &[Unit], ty: &Ty) -> bool
     ensures stays { IsTrue result → put (nth by.now) (type_tree ty.now) ≡ type_tree ty.now }
     ensures fits { IsTrue result → IsTrue (type_fits (type_tree ty.now)) }

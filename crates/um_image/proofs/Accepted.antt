@@ -37,7 +37,8 @@ use Rattle.um_image.proofs.Functions.{Begins, begins_get, IsFound, each_found, l
 use Rattle.um_image.proofs.Accepts.{Known, Recorded, Positive}
 use Rattle.um_image.proofs.Bodies.{body_accepted}
 use Rattle.um_image.proofs.NamedRecords.{AllBelow, note_names, type_names, names_found}
-use Rattle.um_image.proofs.Names.{Within, distinct_within, distinct_behind, plain_names, plain_field_names, names_within, fields_within, field_among, get_behind, all_at, all_of}
+use Rattle.um_image.proofs.Names.{Within, distinct_within, distinct_behind, plain_names, plain_field_names, names_within, fields_within, field_among, get_behind}
+use Rattle.um_image.proofs.Items.{all_at, all_of}
 
 -- a program without a fault has shapes
 shapes_of : (p : ProgramTree) → first_fault p ≡ None → (gs : List ShapeSignature) × (program_found p ≡ Ok gs)

@@ -8,7 +8,7 @@ use Rattle.um_machine.specs.declared.code.Entry.{Entry}
 use Rattle.um_verify.specs.ImageTree.{HeadTree, Follow, Match}
 use Rattle.um_verify.specs.declared.image.Head.{Head}
 use Rattle.um_verify.specs.ImageTree.{head_tree}
-use Rattle.um_image.proofs.Names.{all_of}
+use Rattle.um_image.proofs.Items.{all_of}
 use Rattle.um_image.specs.Encoding.{long_bytes, own_ops}
 use Rattle.um_image.specs.Pieces.{op_bytes, function_bytes, functions_bytes}
 

@@ -10,7 +10,7 @@ use Rattle.um_verify.specs.declared.image.Head.{Head}
 use Rattle.um_verify.specs.ImageTree.{ImageTree, head_tree, HasForm}
 use Rattle.um_image.specs.Encoding.{FunctionPart, own_ops, function_parts, image_parts}
 use Rattle.um_image.specs.Places.{RecordFits, FunctionFits, PartsFit}
-use Rattle.um_image.proofs.Names.{all_of}
+use Rattle.um_image.proofs.Items.{all_of}
 use Rattle.um_image.proofs.Added.{match_lengths}
 use Rattle.um_image.proofs.Spelled.{parts_length}
 

@@ -6,6 +6,7 @@ mod Accepts
 mod Bodies
 mod Records
 mod Functions
+pub mod Items
 mod Names
 mod NamedRecords
 mod Accepted

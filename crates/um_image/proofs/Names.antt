@@ -1,7 +1,7 @@
 -- Names that are taken once among many are taken once among the first of them.
-use Rattle.std.proofs.Common.{◌≡◌, refl, sym, subst, ap, ◌∙◌, ℕ, zero, suc, ◌+◌, List, [], ◌∷◌, ◌++◌, length, map, take, All, get_or, Some, slice_get, arith, append_assoc}
+use Rattle.std.proofs.Common.{◌≡◌, refl, sym, subst, ap, ◌∙◌, ℕ, zero, suc, ◌+◌, List, [], ◌∷◌, ◌++◌, length, map, take, Some, slice_get, arith, append_assoc}
 use Rattle.std.specs.Prelude.{option_map}
-use Rattle.std.proofs.lemmas.Option.{slice_get-map, slice_get-get_or, slice_get_within, get_or_from_slice_get}
+use Rattle.std.proofs.lemmas.Option.{slice_get-map}
 use Rattle.um_tree.specs.ProgramTree.{FieldTree, RecordTree}
 use Rattle.um_tree.specs.Formed.{AreDistinct, field_names}
 use Rattle.um_image.specs.ProgramImage.{plain_field, plain_record}
@@ -82,10 +82,3 @@ field_among (x ∷ ds) zero d s k f h =
 field_among (x ∷ ds) (suc r) d s k f h =
     let j = field_among ds r d s k f h in
     (length (map (λ (f : FieldTree). f.name) x.fields) + j.0, get_behind (map (λ (f : FieldTree). f.name) x.fields) (field_names ds) j.0 ∙ j.1)
-
--- an element that `All` speaks of
-pub all_at : {A : Type 0} (P : A → Type 0) (xs : List A) (k : ℕ) (x : A) → All P xs → slice_get xs k ≡ Some x → P x
-all_at P xs k x h e = subst P (get_or_from_slice_get xs k x x e) (h k x (slice_get_within xs k x e))
-
-pub all_of : {A : Type 0} (P : A → Type 0) (xs : List A) → ((k : ℕ) (x : A) → slice_get xs k ≡ Some x → P x) → All P xs
-all_of P xs h k d l = h k (get_or xs k d) (slice_get-get_or xs k d l)

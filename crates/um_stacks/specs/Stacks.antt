@@ -1,6 +1,7 @@
 -- Stacks of shapes by their numbers. This mirrors the code.
 -- Source: this project's own; the jumps are those of E. W. Myers, An applicative random-access stack, 1983.
-use Rattle.std.specs.Prelude.{◌≡◌, ◌<◌, ◌≤◌, ◌+◌, ◌^◌, ℕ, List, [], ◌∷◌, ◌++◌, length, map, take, reverse, get_or, slice_get}
+use Rattle.std.specs.Prelude.{◌≡◌, ◌<◌, ◌≤◌, ◌+◌, ◌^◌, ℕ, List, [], ◌∷◌, ◌++◌, length, map, take, reverse, get_or}
+use Rattle.std.specs.Prelude.{slice_get}
 use Rattle.std.specs.Prelude.{Option, Some, None, option_map, MatchOption}
 use Rattle.um_verify.specs.StackShape.{StackShape, join_all, join_with, join_items}
 use Rattle.um_stacks.specs.FlatShapes.{flat_shape, flat_shapes}

@@ -201,8 +201,8 @@ impl Stacks {
         low
     }
 
-    /// The join of the shapes from this place up to the top, if they have one: the shape of the items of a list of them.
-    /// It takes time logarithmic in the height.
+    /// The join of the shapes from this place up to the top, if they have one: the shape of the items of a list of
+    /// them. It takes time logarithmic in the height.
     pub fn joined_items(&self, stack: u32, place: u32) -> Option<FlatShape>
         requires { place ≤ length (stack_at self.now stack) }
         ensures { option_map flat_shape result ≡ join_items (flat_shapes (drop place (stack_at self.now stack))) }

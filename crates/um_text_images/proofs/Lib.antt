@@ -1,4 +1,3 @@
-mod Items
 mod Powers
 mod Bodies
 mod Operands

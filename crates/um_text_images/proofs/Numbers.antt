@@ -12,9 +12,9 @@ use Rattle.um_machine.specs.declared.code.Entry.{Entry}
 use Rattle.um_verify.specs.ImageTree.{HeadTree, ImageTree, IsPlainField, IsPlainRecord, IsPlainHead}
 use Rattle.um_verify.specs.Heads.{NamesBelow, IsShapeIn}
 use Rattle.um_verify.specs.Verified.{IsVerified}
+use Rattle.um_image.proofs.Items.{all_at, all_of}
 use Rattle.um_image.specs.Encoding.{FunctionPart, own_ops, function_parts, image_parts}
 use Rattle.um_image.specs.Places.{ShapeFits, FieldFits, RecordFits, OpFits, FunctionFits, PartsFit}
-use Rattle.um_text_images.proofs.Items.{all_at, all_of}
 
 module _ (image : ImageTree) (verified : IsVerified image) (fits : All OpFits image.code.ops) where
   -- ---- shapes name records of the image

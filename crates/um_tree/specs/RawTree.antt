@@ -172,7 +172,8 @@ listed_node (RawNode-F.And a b) at = and_syntax at a.value b.value
 listed_node (RawNode-F.Or a b) at = or_syntax at a.value b.value
 listed_node (RawNode-F.If c a b) at = if_syntax at c.value a.value b.value
 listed_node (RawNode-F.Let x a b) at = let_syntax at (binder_syntax x) a.value b.value
-listed_node (RawNode-F.Match l a x y b) at = match_syntax at l.value a.value (binder_syntax x.value) (binder_syntax y.value) b.value
+listed_node (RawNode-F.Match l a x y b) at =
+    match_syntax at l.value a.value (binder_syntax x.value) (binder_syntax y.value) b.value
 listed_node (RawNode-F.Nil t) at = nil_syntax at (type_syntax t)
 listed_node (RawNode-F.List es) at = list_syntax at es
 listed_node (RawNode-F.Cons a b) at = cons_syntax at a.value b.value

@@ -1,8 +1,10 @@
 -- Why the units of a function disagree: the agreement that fails, the factor between its two types, and the agreements
 -- that force it to fail.
 -- Source: Kennedy (1996); Tamiz, Mardle and Jones (1996). What is told is this project's own.
-use Rattle.std.specs.Prelude.{◌≡◌, ◌⊎◌, ℕ, zero, suc, ◌+◌, ◌-◌, ◌&&◌, ◌||◌, not, nat_eq, nat_lt, if◌then◌else◌, Bool, true, false}
-use Rattle.std.specs.Prelude.{IsTrue, IsFalse, List, [], ◌∷◌, ◌++◌, map, length, get_or, drop, Option, Some, None, Contains}
+use Rattle.std.specs.Prelude.{◌≡◌, ◌⊎◌, ℕ, zero, suc, ◌+◌, ◌-◌, ◌&&◌, ◌||◌, not, nat_eq, nat_lt, if◌then◌else◌, Bool}
+use Rattle.std.specs.Prelude.{true, false}
+use Rattle.std.specs.Prelude.{IsTrue, IsFalse, List, [], ◌∷◌, ◌++◌, map, length, get_or, drop, Option, Some, None}
+use Rattle.std.specs.Prelude.{Contains}
 use Rattle.std.specs.List.{flat_map, list_any, list_all}
 use Rattle.um_units.specs.PowerMap.{PowerMap}
 use Rattle.um_tree.specs.RawTree.{DeclSyntax}

@@ -1,6 +1,6 @@
 -- The code's: terms whose powers have room for sums of products of powers, which the code adds up before it looks at
 -- the range.
--- Source: this project's own; no public clause rests on it.
+-- Source: this project's own; the clauses of `um_units::wide` and of `um_wide` rest on it.
 use Rattle.std.specs.Prelude.{◌≡◌, ◌+◌, ◌^◌, ◌<◌, ℕ, max, List, [], ◌∷◌, map, nat_abs}
 use Rattle.um_units.specs.declared.Atom.{Atom}
 use Rattle.um_units.specs.declared.Term.{Term}
