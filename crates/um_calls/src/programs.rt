@@ -40,10 +40,7 @@ macro_rules! assert_text {
 }
 
 // The raw program of a text, if it is one.
-#[tactic(auto, using(
-    um_syntax::proofs::TokenCounts::tokens_within_bytes,
-    um_readable::proofs::TextBytes::readable_program
-))]
+#[tactic(auto, using(um_syntax::proofs::TokenCounts::tokens_within_bytes, um_readable::proofs::TextBytes::readable_program))]
 fn raw_program(alloc: Global, text: &str) -> Option<RawProgram>
     ensures readable { IfSome result (λ raw. IsReadable (program_syntax raw)) }
 {

@@ -97,11 +97,7 @@ pub(crate) fn not(alloc: Global, at: u32, part: &Ty, progress: &mut Progress) ->
 }
 
 /// A whole power: the unit of its part, raised.
-#[tactic(auto, using(
-    crate::proofs::NodeLaws::node_formed,
-    crate::proofs::NodeLaws::node_stops,
-    crate::proofs::NodeLaws::node_past
-))]
+#[tactic(auto, using(crate::proofs::NodeLaws::node_formed, crate::proofs::NodeLaws::node_stops, crate::proofs::NodeLaws::node_past))]
 pub(crate) fn pown(
     alloc: Global,
     at: u32,
@@ -124,13 +120,7 @@ pub(crate) fn pown(
 }
 
 /// `&&` and `||`
-#[tactic(auto, using(
-    crate::proofs::NodeLaws::node_formed,
-    crate::proofs::NodeLaws::node_stops,
-    um_equal_types::proofs::PushLaws::stops_front,
-    um_equal_types::proofs::PushLaws::stops_back,
-    um_equal_types::proofs::PushLaws::behind_then
-))]
+#[tactic(auto, using(crate::proofs::NodeLaws::node_formed, crate::proofs::NodeLaws::node_stops, um_equal_types::proofs::PushLaws::stops_front, um_equal_types::proofs::PushLaws::stops_back, um_equal_types::proofs::PushLaws::behind_then))]
 pub(crate) fn truths(
     alloc: Global,
     at: u32,
@@ -148,11 +138,7 @@ pub(crate) fn truths(
 }
 
 /// An operation on numbers of two units.
-#[tactic(auto, using(
-    crate::proofs::NodeLaws::node_formed,
-    crate::proofs::NodeLaws::node_stops,
-    crate::proofs::NodeLaws::node_past
-))]
+#[tactic(auto, using(crate::proofs::NodeLaws::node_formed, crate::proofs::NodeLaws::node_stops, crate::proofs::NodeLaws::node_past))]
 fn units(
     alloc: Global,
     at: u32,
@@ -205,13 +191,7 @@ pub(crate) fn arith(
 }
 
 /// A comparison.
-#[tactic(auto, using(
-    crate::proofs::NodeLaws::node_formed,
-    crate::proofs::NodeLaws::node_stops,
-    um_equal_types::proofs::PushLaws::stops_front,
-    um_equal_types::proofs::PushLaws::stops_back,
-    um_equal_types::proofs::PushLaws::behind_then
-))]
+#[tactic(auto, using(crate::proofs::NodeLaws::node_formed, crate::proofs::NodeLaws::node_stops, um_equal_types::proofs::PushLaws::stops_front, um_equal_types::proofs::PushLaws::stops_back, um_equal_types::proofs::PushLaws::behind_then))]
 pub(crate) fn compare(
     alloc: Global,
     at: u32,
@@ -233,13 +213,7 @@ pub(crate) fn compare(
 }
 
 /// `if`: the first arm against the second.
-#[tactic(auto, using(
-    crate::proofs::NodeLaws::node_formed,
-    crate::proofs::NodeLaws::node_stops,
-    um_equal_types::proofs::PushLaws::stops_front,
-    um_equal_types::proofs::PushLaws::stops_back,
-    um_equal_types::proofs::PushLaws::behind_then
-))]
+#[tactic(auto, using(crate::proofs::NodeLaws::node_formed, crate::proofs::NodeLaws::node_stops, um_equal_types::proofs::PushLaws::stops_front, um_equal_types::proofs::PushLaws::stops_back, um_equal_types::proofs::PushLaws::behind_then))]
 pub(crate) fn condition(
     alloc: Global,
     at: u32,
@@ -259,13 +233,7 @@ pub(crate) fn condition(
 }
 
 /// `match`: the empty arm against the full one.
-#[tactic(auto, using(
-    crate::proofs::NodeLaws::node_formed,
-    crate::proofs::NodeLaws::node_stops,
-    um_equal_types::proofs::PushLaws::stops_front,
-    um_equal_types::proofs::PushLaws::stops_back,
-    um_equal_types::proofs::PushLaws::behind_then
-))]
+#[tactic(auto, using(crate::proofs::NodeLaws::node_formed, crate::proofs::NodeLaws::node_stops, um_equal_types::proofs::PushLaws::stops_front, um_equal_types::proofs::PushLaws::stops_back, um_equal_types::proofs::PushLaws::behind_then))]
 pub(crate) fn split(
     alloc: Global,
     at: u32,
@@ -285,13 +253,7 @@ pub(crate) fn split(
 }
 
 /// The empty list of a written type.
-#[tactic(auto, using(
-    crate::proofs::NodeLaws::node_formed,
-    crate::proofs::NodeLaws::node_stops,
-    um_equal_types::proofs::PushLaws::stops_front,
-    um_equal_types::proofs::PushLaws::stops_back,
-    um_equal_types::proofs::PushLaws::behind_then
-))]
+#[tactic(auto, using(crate::proofs::NodeLaws::node_formed, crate::proofs::NodeLaws::node_stops, um_equal_types::proofs::PushLaws::stops_front, um_equal_types::proofs::PushLaws::stops_back, um_equal_types::proofs::PushLaws::behind_then))]
 pub(crate) fn nil(alloc: Global, at: u32, ty: Ty, progress: &mut Progress) -> Result<Ty, RowStop>
     requires fits { IsTrue (type_fits (type_tree ty)) }
     ensures reached { IsReached (node progress.old.rows.items progress.old.holes (nil_rule at (type_tree ty)))
@@ -303,13 +265,7 @@ pub(crate) fn nil(alloc: Global, at: u32, ty: Ty, progress: &mut Progress) -> Re
 }
 
 /// `::`: the head against the tail's item.
-#[tactic(auto, using(
-    crate::proofs::NodeLaws::node_formed,
-    crate::proofs::NodeLaws::node_stops,
-    um_equal_types::proofs::PushLaws::stops_front,
-    um_equal_types::proofs::PushLaws::stops_back,
-    um_equal_types::proofs::PushLaws::behind_then
-))]
+#[tactic(auto, using(crate::proofs::NodeLaws::node_formed, crate::proofs::NodeLaws::node_stops, um_equal_types::proofs::PushLaws::stops_front, um_equal_types::proofs::PushLaws::stops_back, um_equal_types::proofs::PushLaws::behind_then))]
 pub(crate) fn cons(
     alloc: Global,
     at: u32,

@@ -18,7 +18,6 @@ pub(crate) struct Walk<'a> {
     pub(crate) context: Context,
     pub(crate) keep: bool,
     ghost variables: { AreVariables context.holes.items },
-    ghost closed_schemes: { AreClosedBefore context.number schemes.now }
-        by { closed_before_prop context.number schemes.now },
+    ghost closed_schemes: { AreClosedBefore context.number schemes.now } by { closed_before_prop context.number schemes.now },
     ghost closed_records: { All IsClosedRecord records.now } by { closed_records_prop records.now },
 }

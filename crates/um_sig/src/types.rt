@@ -83,10 +83,7 @@ fn all_type_names(tables: &Tables, variables: &NameTable, raw: &[RawType]) -> Re
 }
 
 /// The unit variables of type texts, in the order of their numbers.
-#[tactic(auto, using(
-    um_measures::proofs::Occurrences::both_occur,
-    um_measures::proofs::Occurrences::occurrences_append
-))]
+#[tactic(auto, using(um_measures::proofs::Occurrences::both_occur, um_measures::proofs::Occurrences::occurrences_append))]
 fn signature_variables(alloc: Global, raw: &[RawType]) -> Result<NameTable, AllocError>
     ensures { IfOk result (λ names. names ≡ signature_variables (map type_syntax raw.now)) }
 {
