@@ -4,7 +4,7 @@ ghost use Rattle.std.specs.Prelude.{OnOk, IfOk};
 ghost use Rattle.std.specs.List.{prefix_len};
 ghost use Rattle.um_syntax.specs.Gap.{is_space};
 ghost use Rattle.um_tidy.specs.declared.gap.Above.{Above};
-ghost use Rattle.um_tidy.specs.Gaps.{in_line, lines, comment, width_from, indent, blank_line};
+ghost use Rattle.um_tidy.specs.Gaps.{in_line, lines, comment, width_from, blank_line};
 ghost use Rattle.um_tidy.specs.Gaps.{past_blank, own_line, below, each_line, indentation, before_token, comment_after};
 ghost use Rattle.um_tidy.specs.Gaps.{line_end, first_gap, inner_gap, last_gap, only_gap};
 
@@ -168,7 +168,7 @@ fn push_own_line(
         return Ok(past_blank(above));
     }
     push_blank_line(text, above)?;
-    text.push_spaces(indent(line, margin))?;
+    text.push_spaces(width(&line[..margin]))?;
     text.push_all(comment)?;
     text.push_byte(b'\n')?;
     Ok(Above::Line)
@@ -227,7 +227,7 @@ fn push_indentation(
     if begins {
         return Ok(());
     }
-    text.push_spaces(indent(line, margin).max(2))
+    text.push_spaces(width(&line[..margin]).max(2))
 }
 
 fn past_blank(above: Above) -> Above
@@ -266,16 +266,6 @@ fn margin_len(line: &[u8]) -> usize
     ensures len { result ≡ prefix_len is_space line.now }
 {
     space_end(line, 0)
-}
-
-/// The columns that the white space at the front takes.
-fn indent(line: &[u8], margin: usize) -> usize
-    requires short { length line.now ≤ 1048576 }
-    requires within { margin ≤ length line.now }
-    requires margin { margin ≡ prefix_len is_space line.now }
-    ensures { result ≡ indent line.now }
-{
-    width(&line[..margin])
 }
 
 /// The columns that white space takes.
