@@ -2,7 +2,7 @@
 ghost use Rattle.um_cells.specs.Holding.{AllHold};
 
 use crate::stop::Stop;
-use crate::words::{put_values, settle, settle_two, word_above};
+use crate::words::{append, put_values, settle, settle_two, word_above};
 use std::alloc::Global;
 use um_cells::{Store, Word, WordOutcome};
 use um_tree::Values;
@@ -38,6 +38,7 @@ impl Stack {
     }
 
     /// The word that stands `k` words above the base.
+    #[inline(always)]
     pub(crate) fn word_at(&self, base: usize, k: usize) -> Option<Word>
         ensures { result ≡ slice_get self.now.words.items (base + k) }
     {
@@ -45,6 +46,7 @@ impl Stack {
     }
 
     /// Where the topmost `count` words begin, if so many stand above the base.
+    #[inline(always)]
     pub(crate) fn place_of(&self, base: usize, count: usize) -> Option<usize>
         ensures { MatchOption result (length self.now.words.items < base + count)
             (λ at. (base ≤ at) × (at + count ≡ length self.now.words.items)) }
@@ -59,6 +61,7 @@ impl Stack {
     }
 
     /// The topmost word and its place, if it stands above the base.
+    #[inline(always)]
     pub(crate) fn one(&self, base: usize) -> Option<(usize, Word)>
         ensures { MatchOption result (length self.now.words.items < base + 1)
             (λ r. (base ≤ r.0) × (r.0 + 1 ≡ length self.now.words.items)
@@ -72,6 +75,7 @@ impl Stack {
     }
 
     /// The two topmost words and the place of the lower one, if they stand above the base.
+    #[inline(always)]
     pub(crate) fn two(&self, base: usize) -> Option<(usize, Word, Word)>
         ensures { MatchOption result (length self.now.words.items < base + 2)
             (λ r. (base ≤ r.0) × (r.0 + 2 ≡ length self.now.words.items)
@@ -103,6 +107,7 @@ impl Stack {
     }
 
     /// The words from the place on go.
+    #[inline(always)]
     pub(crate) fn cut(&mut self, at: usize)
         ensures { (vs : List ValueTree) → Carries self.old vs → Carries self.new (take at vs) }
     {
@@ -110,18 +115,20 @@ impl Stack {
     }
 
     /// One word more.
+    #[inline(always)]
     pub(crate) fn push(&mut self, word: Word) -> Result<(), Stop>
         requires { HasValue self.old.store word }
         ensures { (vs : List ValueTree) (v : ValueTree) → Carries self.old vs → DenotesIn self.old.store word v
             → Placed self.new vs (Ok v) result }
     {
-        match self.words.push(word) {
+        match append(&mut self.words, word) {
             Ok(()) => Ok(()),
             Err(_) => Err(Stop::NoMemory),
         }
     }
 
     /// The word in place of those from the place on.
+    #[inline(always)]
     pub(crate) fn settle(&mut self, at: usize, word: Word) -> Result<(), Stop>
         requires place { at ≤ length self.old.words.items }
         requires value { HasValue self.old.store word }
@@ -135,6 +142,7 @@ impl Stack {
     }
 
     /// What an operation gave in place of the words from the place on.
+    #[inline(always)]
     pub(crate) fn put(&mut self, at: usize, outcome: WordOutcome) -> Result<(), Stop>
         requires place { at ≤ length self.old.words.items }
         requires value { (r : Result ValueTree MeaningStop) × IsOutcome self.old.store r outcome }

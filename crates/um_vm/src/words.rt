@@ -23,6 +23,7 @@ pub(crate) fn put_values(
 }
 
 /// The item of this place.
+#[inline(always)]
 pub(crate) fn item<T: Copy>(items: &[T], k: usize) -> Option<T>
     ensures item { result ≡ slice_get items.now k }
     ensures within { OnSome result (k < length items.now) }
@@ -35,6 +36,7 @@ pub(crate) fn item<T: Copy>(items: &[T], k: usize) -> Option<T>
 }
 
 /// The item of this place, which is there.
+#[inline(always)]
 pub(crate) fn item_at<T>(items: &[T], k: usize) -> &T
     requires { k < length items.now }
     ensures { slice_get items.now k ≡ Some result.now }
@@ -43,6 +45,7 @@ pub(crate) fn item_at<T>(items: &[T], k: usize) -> &T
 }
 
 /// The word that stands `k` words above the base.
+#[inline(always)]
 pub(crate) fn word_above(words: &Vec<Word>, base: usize, k: usize) -> Option<Word>
     ensures { result ≡ slice_get words.now.items (base + k) }
 {
@@ -56,7 +59,30 @@ pub(crate) fn word_above(words: &Vec<Word>, base: usize, k: usize) -> Option<Wor
     }
 }
 
+/// One item more. If memory runs out, the items are as they were.
+#[inline(always)]
+pub(crate) fn append<T: Copy>(items: &mut Vec<T>, item: T) -> Result<(), NoMemory>
+    ensures ok { OnOk result (items.new.items ≡ items.old.items ++ item ∷ []) }
+    ensures same { OnErr result (items.new.items ≡ items.old.items) }
+{
+    if items.len() < items.capacity() {
+        items.push_reserved(item);
+        return Ok(());
+    }
+    append_to_full(items, item)
+}
+
+#[inline(never)]
+fn append_to_full<T: Copy>(items: &mut Vec<T>, item: T) -> Result<(), NoMemory>
+    ensures ok { OnOk result (items.new.items ≡ items.old.items ++ item ∷ []) }
+    ensures same { OnErr result (items.new.items ≡ items.old.items) }
+{
+    items.push(item)?;
+    Ok(())
+}
+
 /// The word in place of those from the place on. If memory runs out, the words are as they were.
+#[inline(always)]
 pub(crate) fn settle(words: &mut Vec<Word>, at: usize, word: Word) -> Result<(), NoMemory>
     requires { at ≤ length words.old.items }
     ensures ok { OnOk result (words.new.items ≡ take at words.old.items ++ word ∷ []) }
@@ -67,7 +93,7 @@ pub(crate) fn settle(words: &mut Vec<Word>, at: usize, word: Word) -> Result<(),
         words[at] = word;
         return Ok(());
     }
-    words.push(word)?;
+    append(words, word)?;
     Ok(())
 }
 
@@ -82,7 +108,7 @@ pub(crate) fn settle_two(
     ensures ok { OnOk result (words.new.items ≡ take at words.old.items ++ first ∷ second ∷ []) }
     ensures same { OnErr result (words.new.items ≡ words.old.items) }
 {
-    words.push(second)?;
+    append(words, second)?;
     words[at] = first;
     Ok(())
 }
