@@ -8,8 +8,9 @@ pub mod Counting
 pub mod Running
 -- What the definitions come to: statements, each proved as the contract of a function of src/laws.rt.
 pub mod Laws
--- What mirrors the code: what an operation gives, what it leaves on the stack, what a step of a run comes to, and how
--- far a machine is.
+-- What mirrors the code: which frames a run keeps, what an operation gives, what it leaves on the stack, what a step of
+-- a run comes to, and how far a machine is.
+pub mod Frames
 pub mod Applying
 pub mod Placing
 pub mod Stepping

@@ -2,7 +2,7 @@
 ghost use Rattle.um_cells.specs.Holding.{AllHold};
 
 use crate::stop::Stop;
-use crate::words::{append, put_values, settle, settle_two, word_above};
+use crate::words::{append, put_values, replace, settle, settle_two, word_above};
 use std::alloc::Global;
 use um_cells::{Store, Word, WordOutcome};
 use um_tree::Values;
@@ -128,7 +128,6 @@ impl Stack {
     }
 
     /// The word in place of those from the place on.
-    #[inline(always)]
     pub(crate) fn settle(&mut self, at: usize, word: Word) -> Result<(), Stop>
         requires place { at ≤ length self.old.words.items }
         requires value { HasValue self.old.store word }
@@ -141,16 +140,30 @@ impl Stack {
         }
     }
 
-    /// What an operation gave in place of the words from the place on.
+    /// The word in place of those from the place on, of which one is there.
+    #[inline(always)]
+    pub(crate) fn replace(&mut self, at: usize, word: Word)
+        requires place { at < length self.old.words.items }
+        requires value { HasValue self.old.store word }
+        ensures { (vs : List ValueTree) (v : ValueTree) → Carries self.old vs → DenotesIn self.old.store word v
+            → Carries self.new (take at vs ++ v ∷ []) }
+    {
+        replace(&mut self.words, at, word);
+    }
+
+    /// What an operation gave in place of the words from the place on, of which one is there.
     #[inline(always)]
     pub(crate) fn put(&mut self, at: usize, outcome: WordOutcome) -> Result<(), Stop>
-        requires place { at ≤ length self.old.words.items }
+        requires place { at < length self.old.words.items }
         requires value { (r : Result ValueTree MeaningStop) × IsOutcome self.old.store r outcome }
         ensures { (vs : List ValueTree) (r : Result ValueTree MeaningStop) → Carries self.old vs
             → IsOutcome self.old.store r outcome → Placed self.new (take at vs) r result }
     {
         match outcome {
-            WordOutcome::Value(word) => self.settle(at, word),
+            WordOutcome::Value(word) => {
+                self.replace(at, word);
+                Ok(())
+            }
             WordOutcome::Trap(trap) => Err(Stop::Trap(trap)),
             WordOutcome::Wrong => Err(Stop::Stuck),
         }

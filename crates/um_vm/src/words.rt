@@ -89,12 +89,21 @@ pub(crate) fn settle(words: &mut Vec<Word>, at: usize, word: Word) -> Result<(),
     ensures same { OnErr result (words.new.items ≡ words.old.items) }
 {
     if at < words.len() {
-        words.truncate(at + 1);
-        words[at] = word;
+        replace(words, at, word);
         return Ok(());
     }
     append(words, word)?;
     Ok(())
+}
+
+/// The word in place of those from the place on, of which one is there.
+#[inline(always)]
+pub(crate) fn replace(words: &mut Vec<Word>, at: usize, word: Word)
+    requires { at < length words.old.items }
+    ensures { words.new.items ≡ take at words.old.items ++ word ∷ [] }
+{
+    words.truncate(at + 1);
+    words[at] = word;
 }
 
 /// Two words in place of the topmost. If memory runs out, the words are as they were.

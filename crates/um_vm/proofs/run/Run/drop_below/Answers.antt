@@ -1,4 +1,4 @@
-use Rattle.std.proofs.Common.{◌-◌, Ok, take, arith}
+use Rattle.std.proofs.Common.{◌-◌, ◌++◌, ◌∷◌, [], take, arith}
 use Rattle.um_machine.specs.Machine.{pushes}
 use Rattle.um_vm.specs.Going.{state_of}
 use Rattle.um_vm.proofs.Acted.{slid, not_slid, same_step}
@@ -11,5 +11,6 @@ returns-then-at-self-clause-step c = λ code vs v h d.
 pub returns-clause-step : goal.returns-clause-step
 returns-clause-step c = λ code vs v h d.
     let m = c.args.self.now in
-    same_step code c.settle.new.self _ (pushes code (state_of m vs) (take (c.args.at - c.args.count) vs) v) c.settle.result (slid m vs h.1 code c.args.at c.args.count v (omega arith) c.requires.place)
-    (c.settle.ensures.step code vs (take (c.args.at - c.args.count) vs) (Ok v) h.0 (c.settle-done.ensures vs v h.1 d))
+    let low = take (c.args.at - c.args.count) vs in
+    same_step code c.go_on.new.self _ (pushes code (state_of m vs) low v) c.go_on.result (slid m vs h.1 code c.args.at c.args.count v (omega arith) c.requires.place)
+    (c.go_on.ensures.step code vs (low ++ v ∷ []) (h.0, c.replace.ensures vs v h.1 d))

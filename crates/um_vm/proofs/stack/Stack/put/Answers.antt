@@ -1,10 +1,10 @@
-use Rattle.std.proofs.Common.{subst, take}
+use Rattle.std.proofs.Common.{subst}
 use Rattle.um_cells.specs.Operations.{IsOutcome}
-use Rattle.um_vm.proofs.Settled.{value_outcome, trap_outcome, wrong_outcome, placed_as}
+use Rattle.um_vm.proofs.Settled.{value_outcome, trap_outcome, wrong_outcome}
 use Rattle.um_vm.proofs.stack.Stack.put.Goals as goal
 
-pub settle-requires-clause-value : goal.settle-requires-clause-value
-settle-requires-clause-value c =
+pub replace-requires-clause-value : goal.replace-requires-clause-value
+replace-requires-clause-value c =
     let s = c.args.self.now.store in
     let (v, e, d) = value_outcome s c.requires.value.0 c.in-Value.word (subst (λ x. IsOutcome s c.requires.value.0 x) c.in-Value.is c.requires.value.1) in
     (v, d)
@@ -13,7 +13,7 @@ pub returns-in-Value : goal.returns-in-Value
 returns-in-Value c = λ vs r h k.
     let s = c.args.self.now.store in
     let (v, e, d) = value_outcome s r c.in-Value.word (subst (λ x. IsOutcome s r x) c.in-Value.is k) in
-    placed_as c.settle.new.self (take c.args.at vs) r v c.settle.result e (c.settle.ensures vs v h d)
+    (v, e, c.replace.ensures vs v h d)
 
 pub returns-in-Trap : goal.returns-in-Trap
 returns-in-Trap c = λ vs r h k.
