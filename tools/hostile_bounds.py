@@ -55,18 +55,20 @@ ANSWER = Bound(
     "answer", "MiB of the answer", 0.02, 3,
     "forced: each type names its units, however long their names are")
 NODES = Bound(
-    "nodes", "million nodes that calls look at", 0.3, 56,
+    "nodes", "million nodes that calls look at", 0.4, 56,
     "a unit of the budget is a call, which looks at each node of its function's body at most once. A node takes one "
-    "operation on numbers of 64 bits, and leaves at most a value of 24 bytes, a frame of 40 or a cell of 48")
+    "operation on numbers of 64 bits, a product of fractions up to 180 divisions for two greatest common divisors, "
+    "and leaves at most a value of 24 bytes, a frame of 40 or a cell of 48")
 TWICE = Bound(
-    "nodes, twice", "million nodes that calls look at", 0.6, 56,
+    "nodes, twice", "million nodes that calls look at", 0.8, 56,
     "the same; two runs, one after the other")
 CALLS = Bound(
     "calls", "MiB of the calls", 1.5, 6,
     "a line takes time for its words and its run, however many names the program has; the answer is kept")
 READINGS = Bound(
-    "readings", "MiB of the text", 63 * 0.25, 300,
-    "the last declaration is read for each of 61 words that could stand at the place, and twice more")
+    "readings", "MiB of the text", 64 * 0.25, 300,
+    "the last declaration is read for each word that could stand at the place, some 50 and at most 62 times, and "
+    "twice more")
 CERTIFICATE = Bound(
     "certificate", "MiB of the answer", 1, 20,
     "forced: the answer names the equations that each unit comes from, which grow with the square of a function's "
