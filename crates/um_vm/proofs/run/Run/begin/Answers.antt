@@ -15,3 +15,8 @@ returns-in-Ok-clause-step c = λ code vs h.
       ap (λ fs. going (record { at = f.start; stack = vs; running = record { function = f.function; back = m.at + 1; base = f.base }; callers = fs; budget = m.budget - 1 })) (sym pushed)
           ∙ ap (λ b. going (record { at = f.start; stack = vs; running = record { function = f.function; back = b; base = f.base }; callers = map frame_of (reverse all); budget = m.budget - 1 })) (sym c.requires.back),
     )
+
+pub returns-in-Err-clause-stays : goal.returns-in-Err-clause-stays
+returns-in-Err-clause-stays c = λ code vs h.
+    let m = c.args.self.now in
+    (h, ap (λ fs. record { at = m.at; stack = vs; running = frame_of m.running; callers = map frame_of (reverse fs); budget = m.budget }) c.in-Err.ensures.same)
