@@ -24,6 +24,7 @@ mod several;
 mod stack;
 mod step;
 mod stop;
+mod stride;
 mod words;
 
 pub use counting::{CountedOutcome, run_code};
