@@ -29,14 +29,14 @@ abbrev pub unit_state : UnitReader → State
 unit_state r = state_of r.frames r.focus
 
 -- what a step gives: the next state, or, at a refused token, a state that ends as the one before
-abbrev pub Simulates : State → Frames → Step → State → Type 0
-Simulates old frames (step.Goes now) state = state ≡ state_of frames now
-Simulates old frames (step.Stops now) state = (state ≡ Refused) × (finish (state_of frames now) ≡ finish old)
+abbrev pub Simulates : State → Frames → Focus → Step → State → Type 0
+Simulates old frames now step.Goes state = state ≡ state_of frames now
+Simulates old frames now step.Stops state = (state ≡ Refused) × (finish (state_of frames now) ≡ finish old)
 
 -- a token that the text stops before stays as it was
 abbrev pub Keeps : Step → Token → Token → Type 0
-Keeps (step.Goes now) old new = Unit {0}
-Keeps (step.Stops now) old new = new ≡ old
+Keeps step.Goes old new = Unit {0}
+Keeps step.Stops old new = new ≡ old
 
 -- whether the innermost frame needs no token to end
 abbrev pub ends_itself : List Frame → Bool

@@ -7,6 +7,7 @@ ghost use Rattle.um_unit_texts.specs.UnitFrames.{operand_syntax, view_frame};
 
 use crate::unit_operand::{Operand, Operands};
 use std::alloc::{AllocError, Global};
+use std::mem;
 
 /// A unit text that has begun, up to the part that is read next.
 #[derive(Drop)]
@@ -35,10 +36,25 @@ pub enum Focus {
 }
 
 /// A token goes on, or the text stops before it.
-#[derive(Drop)]
+#[derive(Clone, Copy)]
 pub enum Step {
-    Goes(Focus),
-    Stops(Focus),
+    Goes,
+    Stops,
+}
+
+impl Focus {
+    /// From now on this stands inside the frames. If nothing did, there is nothing to let go.
+    #[inline(always)]
+    pub fn put(&mut self, next: Focus)
+        ensures { self.new ≡ next }
+    {
+        match self {
+            Focus::Empty => mem::forget(mem::replace(self, next)),
+            Focus::Full(_) | Focus::Raised(_) | Focus::Lowered(_) => {
+                drop(mem::replace(self, next));
+            }
+        }
+    }
 }
 
 impl Frame {

@@ -2,7 +2,7 @@
 ghost use Rattle.std.specs.Prelude.{◌≡◌, ◌<◌, IfOk, IfSome, IfNone, OnOk, Some, None, option_map, vec_len, pos};
 ghost use Rattle.um_unit_texts.specs.UnitTokens.{unit_token, power_of};
 ghost use Rattle.um_unit_texts.specs.UnitMachine.{Need, sign_after, Have, Raised, Lowered, reduce, juxtapose, begin};
-ghost use Rattle.um_unit_texts.specs.UnitMachine.{raised};
+ghost use Rattle.um_unit_texts.specs.UnitMachine.{raise, raised};
 ghost use Rattle.um_unit_texts.specs.UnitMachine.{lowered, close_after, opens, after, act, finish, atom_of, power_in};
 ghost use Rattle.um_unit_texts.specs.UnitMachine.{is_atom, is_foreign};
 ghost use Rattle.um_unit_texts.specs.UnitFrames.{operand_syntax};
@@ -12,6 +12,7 @@ use crate::unit_frame::{Focus, Frame, Step};
 use crate::unit_frames::Frames;
 use crate::unit_operand::{Operand, Operands};
 use std::alloc::{AllocError, Global};
+use std::mem;
 use um_frac::Frac;
 use um_syntax::{Kind, Symbol, Token};
 use um_tree::RawUnit;
@@ -120,29 +121,36 @@ pub fn written_power(kind: &Kind) -> Option<i32>
 }
 
 // One token where an atom is wanted.
-fn step_empty(alloc: Global, frames: &mut Frames, token: &mut Token) -> Result<Step, AllocError>
+fn step_empty(
+    alloc: Global,
+    frames: &mut Frames,
+    focus: &mut Focus,
+    token: &mut Token,
+) -> Result<Step, AllocError>
+    requires empty { focus.old ≡ Focus.Empty }
     ensures state { IfOk result
-        (λ s. Simulates (Need (frames_of frames.old)) frames.new s
+        (λ s. Simulates (Need (frames_of frames.old)) frames.new focus.new s
         (begin (frames_of frames.old) (unit_token token.old.kind) token.old.start)) }
     ensures kept { IfOk result (λ s. Keeps s token.old token.new) }
 {
     if let Some(atom) = atom(alloc, &mut token.kind, token.start) {
-        return Ok(Step::Goes(Focus::Full(atom)));
+        focus.put(Focus::Full(atom));
+        return Ok(Step::Goes);
     }
     match &token.kind {
         Kind::Sign(Symbol::LeftParen) => {
             frames.push(Frame::InBracket(token.start))?;
-            Ok(Step::Goes(Focus::Empty))
+            Ok(Step::Goes)
         }
         Kind::Sign(Symbol::Slash) => {
             if opens(frames) {
                 frames.push(Frame::InInverse(token.start))?;
-                Ok(Step::Goes(Focus::Empty))
+                Ok(Step::Goes)
             } else {
-                Ok(Step::Stops(Focus::Empty))
+                Ok(Step::Stops)
             }
         }
-        _ => Ok(Step::Stops(Focus::Empty)),
+        _ => Ok(Step::Stops),
     }
 }
 
@@ -150,19 +158,27 @@ fn step_empty(alloc: Global, frames: &mut Frames, token: &mut Token) -> Result<S
 fn step_raised(
     alloc: Global,
     frames: &Frames,
+    focus: &mut Focus,
     base: Operand,
     token: &Token,
 ) -> Result<Step, AllocError>
     ensures { IfOk result
-        (λ s. Simulates (Raised (frames_of frames.now) (operand_syntax base)) frames.now s
+        (λ s. Simulates (Raised (frames_of frames.now) (operand_syntax base)) frames.now focus.new s
         (raised (frames_of frames.now) (operand_syntax base) (unit_token token.now.kind))) }
 {
     if let Some(power) = written_power(&token.kind) {
-        return Ok(Step::Goes(Focus::Full(base.power(alloc, power)?)));
+        focus.put(Focus::Full(base.power(alloc, power)?));
+        return Ok(Step::Goes);
     }
     match &token.kind {
-        Kind::Sign(Symbol::Minus) => Ok(Step::Goes(Focus::Lowered(base))),
-        _ => Ok(Step::Stops(Focus::Raised(base))),
+        Kind::Sign(Symbol::Minus) => {
+            focus.put(Focus::Lowered(base));
+            Ok(Step::Goes)
+        }
+        _ => {
+            focus.put(Focus::Raised(base));
+            Ok(Step::Stops)
+        }
     }
 }
 
@@ -170,16 +186,23 @@ fn step_raised(
 fn step_lowered(
     alloc: Global,
     frames: &Frames,
+    focus: &mut Focus,
     base: Operand,
     token: &Token,
 ) -> Result<Step, AllocError>
     ensures { IfOk result
-        (λ s. Simulates (Lowered (frames_of frames.now) (operand_syntax base)) frames.now s
+        (λ s. Simulates (Lowered (frames_of frames.now) (operand_syntax base)) frames.now focus.new s
         (lowered (frames_of frames.now) (operand_syntax base) (unit_token token.now.kind))) }
 {
     match written_power(&token.kind) {
-        Some(power) => Ok(Step::Goes(Focus::Full(base.power(alloc, -power)?))),
-        None => Ok(Step::Stops(Focus::Lowered(base))),
+        Some(power) => {
+            focus.put(Focus::Full(base.power(alloc, -power)?));
+            Ok(Step::Goes)
+        }
+        None => {
+            focus.put(Focus::Lowered(base));
+            Ok(Step::Stops)
+        }
     }
 }
 
@@ -195,15 +218,26 @@ fn pop_bracket(frames: &mut Frames) -> Option<u32>
 }
 
 // Brackets close after the unit that was read, if any are open.
-fn close_after(alloc: Global, frames: &mut Frames, operand: Operand) -> Result<Step, AllocError>
+fn close_after(
+    alloc: Global,
+    frames: &mut Frames,
+    focus: &mut Focus,
+    operand: Operand,
+) -> Result<Step, AllocError>
     ensures { IfOk result
-        (λ s. Simulates (Have (frames_of frames.old) (operand_syntax operand)) frames.new s
+        (λ s. Simulates (Have (frames_of frames.old) (operand_syntax operand)) frames.new focus.new s
         (close_after (reduce (frames_of frames.old) (operand_syntax operand)))) }
 {
     let inner = ended(alloc, frames, operand)?;
     match pop_bracket(frames) {
-        Some(at) => Ok(Step::Goes(Focus::Full(inner.bracket(alloc, at)?))),
-        None => Ok(Step::Stops(Focus::Full(inner))),
+        Some(at) => {
+            focus.put(Focus::Full(inner.bracket(alloc, at)?));
+            Ok(Step::Goes)
+        }
+        None => {
+            focus.put(Focus::Full(inner));
+            Ok(Step::Stops)
+        }
     }
 }
 
@@ -217,15 +251,17 @@ fn is_atom(operand: &Operand) -> bool
     }
 }
 
-// `*` or `/` after the unit that was read.
+// `*` or `/` after the unit that was read. After it an atom is wanted.
 fn after_sign(
     alloc: Global,
     frames: &mut Frames,
+    focus: &mut Focus,
     operand: Operand,
     over: bool,
 ) -> Result<Step, AllocError>
+    requires empty { focus.old ≡ Focus.Empty }
     ensures { IfOk result
-        (λ s. Simulates (Have (frames_of frames.old) (operand_syntax operand)) frames.new s
+        (λ s. Simulates (Have (frames_of frames.old) (operand_syntax operand)) frames.new focus.new s
         (sign_after over (reduce (frames_of frames.old) (operand_syntax operand)))) }
 {
     let left = ended(alloc, frames, operand)?;
@@ -234,40 +270,56 @@ fn after_sign(
     } else {
         Frame::InTimes(left)
     })?;
-    Ok(Step::Goes(Focus::Empty))
+    Ok(Step::Goes)
 }
 
-// One token after an atom or a power.
+// `^` after the unit that was read: only an atom has a power.
+fn after_caret(frames: &Frames, focus: &mut Focus, operand: Operand) -> Step
+    ensures { Simulates (Have (frames_of frames.now) (operand_syntax operand)) frames.now focus.new result
+        (raise (frames_of frames.now) (operand_syntax operand)) }
+{
+    if is_atom(&operand) {
+        focus.put(Focus::Raised(operand));
+        Step::Goes
+    } else {
+        focus.put(Focus::Full(operand));
+        Step::Stops
+    }
+}
+
+// One token after an atom or a power, which was taken out of focus.
 fn step_full(
     alloc: Global,
     frames: &mut Frames,
+    focus: &mut Focus,
     operand: Operand,
     token: &mut Token,
 ) -> Result<Step, AllocError>
+    requires empty { focus.old ≡ Focus.Empty }
     ensures state { IfOk result
-        (λ s. Simulates (Have (frames_of frames.old) (operand_syntax operand)) frames.new s
+        (λ s. Simulates (Have (frames_of frames.old) (operand_syntax operand)) frames.new focus.new s
         (after (frames_of frames.old) (operand_syntax operand) (unit_token token.old.kind) token.old.start)) }
     ensures kept { IfOk result (λ s. Keeps s token.old token.new) }
 {
     if let Some(atom) = atom(alloc, &mut token.kind, token.start) {
         juxtapose(alloc, frames, operand)?;
-        return Ok(Step::Goes(Focus::Full(atom)));
+        focus.put(Focus::Full(atom));
+        return Ok(Step::Goes);
     }
     match &token.kind {
         Kind::Sign(Symbol::LeftParen) => {
             juxtapose(alloc, frames, operand)?;
             frames.push(Frame::InBracket(token.start))?;
-            Ok(Step::Goes(Focus::Empty))
+            Ok(Step::Goes)
         }
-        Kind::Sign(Symbol::RightParen) => close_after(alloc, frames, operand),
-        Kind::Sign(Symbol::Star) => after_sign(alloc, frames, operand, false),
-        Kind::Sign(Symbol::Slash) => after_sign(alloc, frames, operand, true),
-        Kind::Sign(Symbol::Caret) => Ok(if is_atom(&operand) {
-            Step::Goes(Focus::Raised(operand))
-        } else {
-            Step::Stops(Focus::Full(operand))
-        }),
-        _ => Ok(Step::Stops(Focus::Full(operand))),
+        Kind::Sign(Symbol::RightParen) => close_after(alloc, frames, focus, operand),
+        Kind::Sign(Symbol::Star) => after_sign(alloc, frames, focus, operand, false),
+        Kind::Sign(Symbol::Slash) => after_sign(alloc, frames, focus, operand, true),
+        Kind::Sign(Symbol::Caret) => Ok(after_caret(frames, focus, operand)),
+        _ => {
+            focus.put(Focus::Full(operand));
+            Ok(Step::Stops)
+        }
     }
 }
 
@@ -287,23 +339,23 @@ pub fn is_foreign(kind: &Kind) -> bool
     }
 }
 
-/// One token more, which stays as it was if it is refused.
+/// One token more, which stays as it was if it is refused. What stands in focus goes on in its place.
 pub fn step(
     alloc: Global,
     frames: &mut Frames,
-    focus: Focus,
+    focus: &mut Focus,
     token: &mut Token,
 ) -> Result<Step, AllocError>
     ensures state { IfOk result
-        (λ s. Simulates (state_of frames.old focus) frames.new s
-        (act (state_of frames.old focus) (unit_token token.old.kind) token.old.start)) }
+        (λ s. Simulates (state_of frames.old focus.old) frames.new focus.new s
+        (act (state_of frames.old focus.old) (unit_token token.old.kind) token.old.start)) }
     ensures kept { IfOk result (λ s. Keeps s token.old token.new) }
 {
-    match focus {
-        Focus::Empty => step_empty(alloc, frames, token),
-        Focus::Full(operand) => step_full(alloc, frames, operand, token),
-        Focus::Raised(base) => step_raised(alloc, frames, base, token),
-        Focus::Lowered(base) => step_lowered(alloc, frames, base, token),
+    match mem::replace(focus, Focus::Empty) {
+        Focus::Empty => step_empty(alloc, frames, focus, token),
+        Focus::Full(operand) => step_full(alloc, frames, focus, operand, token),
+        Focus::Raised(base) => step_raised(alloc, frames, focus, base, token),
+        Focus::Lowered(base) => step_lowered(alloc, frames, focus, base, token),
     }
 }
 

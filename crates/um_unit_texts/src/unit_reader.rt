@@ -57,20 +57,6 @@ impl UnitReader {
         Ok(unit_of(finish(alloc, &mut self.frames, focus)?))
     }
 
-    // From now on this stands inside the frames. If nothing did, there is nothing to let go.
-    #[inline(always)]
-    fn put(&mut self, focus: Focus)
-        ensures focus { self.new.focus ≡ focus }
-        ensures frames { self.new.frames ≡ self.old.frames }
-    {
-        match &self.focus {
-            Focus::Empty => mem::forget(mem::replace(&mut self.focus, focus)),
-            Focus::Full(_) | Focus::Raised(_) | Focus::Lowered(_) => {
-                drop(mem::replace(&mut self.focus, focus));
-            }
-        }
-    }
-
     // One token more.
     #[inline(never)]
     fn take_step(&mut self, alloc: Global, token: &mut Token) -> Result<Taken, AllocError>
@@ -78,20 +64,13 @@ impl UnitReader {
             Takes machine_of_units greatest_height (unit_state self.old) token.old t (unit_state self.new)) }
         ensures kept { IfOk result (λ t. t ≡ Taken.Stops → token.new ≡ token.old) }
     {
-        let focus = mem::replace(&mut self.focus, Focus::Empty);
-        match step(alloc, &mut self.frames, focus, token)? {
-            Step::Goes(focus) => {
-                self.put(focus);
-                Ok(if is_low(&self.frames, &self.focus) {
-                    Taken::Goes
-                } else {
-                    Taken::High
-                })
-            }
-            Step::Stops(focus) => {
-                self.put(focus);
-                Ok(Taken::Stops)
-            }
+        match step(alloc, &mut self.frames, &mut self.focus, token)? {
+            Step::Goes => Ok(if is_low(&self.frames, &self.focus) {
+                Taken::Goes
+            } else {
+                Taken::High
+            }),
+            Step::Stops => Ok(Taken::Stops),
         }
     }
 }
