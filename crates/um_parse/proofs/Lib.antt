@@ -11,6 +11,7 @@ mod ProgramLow
 mod Cut
 mod ProgramExact
 mod ProgramNodes
+mod ProgramPlaces
 mod LimitLaws
 mod ProgramSteps
 mod Front

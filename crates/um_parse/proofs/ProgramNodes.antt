@@ -4,7 +4,7 @@ use Rattle.std.proofs.lemmas.List.{length-append}
 use Rattle.um_syntax.specs.declared.token.Token.{Token}
 use Rattle.um_tree.specs.declared.expression.Sign.{Sign}
 use Rattle.um_tree.specs.declared.expression.Sign.TheVariants as compare
-use Rattle.um_tree.specs.RawTree.{VarSyntax, NoteSyntax, TypeSyntax, BinderSyntax, ExprSyntax, ExprSyntaxes, FieldSyntaxes, truth_syntax, number_syntax, name_syntax, call_syntax, negate_syntax, not_syntax, pown_syntax, arith_syntax, compare_syntax, and_syntax, or_syntax, if_syntax, let_syntax, match_syntax, nil_syntax, list_syntax, cons_syntax, fields_syntax, field_syntax, bracket_expr_syntax, no_exprs, more_exprs, no_fields, more_fields, ParamSyntax, DeclSyntax, function_syntax}
+use Rattle.um_tree.specs.RawTree.{VarSyntax, NoteSyntax, TypeSyntax, BinderSyntax, ExprSyntax, ExprSyntaxes, FieldSyntaxes, truth_syntax, number_syntax, name_syntax, call_syntax, negate_syntax, not_syntax, pown_syntax, arith_syntax, compare_syntax, and_syntax, or_syntax, if_syntax, let_syntax, match_syntax, nil_syntax, list_syntax, cons_syntax, fields_syntax, field_syntax, bracket_expr_syntax, no_exprs, more_exprs, no_fields, more_fields, ParamSyntax, FunctionSyntax, DeclSyntax, function_syntax}
 use Rattle.um_tree.specs.Heights.{expr_nodes, all_expr_nodes, all_field_nodes}
 use Rattle.um_types.specs.TypeGrammar.{NoteSpells, NoteFits, TypeSpells, TypeFits}
 use Rattle.um_types.proofs.NoteComplete.{note_reaches}
@@ -15,7 +15,7 @@ use Rattle.um_operands.specs.declared.infix.Infix.TheVariants as between
 use Rattle.um_forms.specs.declared.token.ExprToken.{ExprToken}
 use Rattle.um_forms.specs.declared.token.ExprToken.TheVariants.{Mark as mark}
 use Rattle.um_expr.specs.ExprGrammar.{First, FirstAt, FirstGlued, InfixAt, PowerSpells, WrittenNote, EmptyArm, FullArm, Spells, AllSpell, ItemsSpell, MoreItems, FieldsSpell, MoreFields, NoteFitsIn, Fits, AreAtoms, AllFit, FieldsFit}
-use Rattle.um_parse.specs.DeclGrammar.{Attribute, VarSpells, MoreVars, VarsSpell, ParamsSpell, ResultSpells, RecSpells, DeclSpells, DeclsSpell, ParamsFit, ResultFits, DeclFits, DeclsFit, IsProgram}
+use Rattle.um_parse.specs.DeclGrammar.{Attribute, VarSpells, MoreVars, VarsSpell, ParamsSpell, ResultSpells, RecSpells, FunctionSpells, DeclSpells, DeclsSpell, ParamsFit, ResultFits, DeclFits, DeclsFit, IsProgram}
 use Rattle.um_parse.specs.ProgramNodes.{decl_nodes, program_nodes}
 use Rattle.um_parse.proofs.DeclComplete.{decl_yields}
 
@@ -283,17 +283,23 @@ vars_less (v ∷ vs) tokens rest s =
 other_less : (d : DeclSyntax) (tokens rest : List Token) → DeclSpells d tokens rest → DeclFits d → length rest ≤ length tokens
 other_less d tokens rest s fits = let p = decl_yields d tokens rest s fits in let y = p.1 in no_longer y.0 tokens rest y.1
 
-decl_fits : (d : DeclSyntax) (tokens rest : List Token) → DeclSpells d tokens rest → DeclFits d → decl_nodes d + length rest ≤ length tokens
-decl_fits (function_syntax f) tokens rest s fits =
-    let a = first_less _ tokens s.0 s.7 in
-    let b = rec_less f.recursive s.0 s.1 s.8 in
-    let c = at_less _ f.at s.1 s.2 s.9 in
+-- the tokens behind the name of a function are as many as its nodes, or more
+pub function_room : (f : FunctionSyntax) (tokens rest : List Token) → (s : FunctionSpells f tokens rest) → DeclFits (function_syntax f) → expr_nodes f.body + length rest ≤ length s.2
+function_room f tokens rest s fits =
     let v = vars_less f.units s.2 s.3 s.10 in
     let d = params_less f.params s.3 s.4 s.11 fits.0 in
     let e = result_less f.recursive f.result s.4 s.5 s.12 fits.1 in
     let g = first_less _ s.5 s.6 s.13 in
     let h = fits_nodes f.body s.6 rest s.14 fits.2 in
-    omega (arith, a, b, c, v, d, e, g, h)
+    omega (arith, v, d, e, g, h)
+
+decl_fits : (d : DeclSyntax) (tokens rest : List Token) → DeclSpells d tokens rest → DeclFits d → decl_nodes d + length rest ≤ length tokens
+decl_fits (function_syntax f) tokens rest s fits =
+    let a = first_less _ tokens s.0 s.7 in
+    let b = rec_less f.recursive s.0 s.1 s.8 in
+    let c = at_less _ f.at s.1 s.2 s.9 in
+    let r = function_room f tokens rest s fits in
+    omega (arith, a, b, c, r)
 decl_fits d tokens rest s fits = let e = other_less d tokens rest s fits in omega (arith, e)
 
 decls_fit : (ds : List DeclSyntax) (tokens rest : List Token) → DeclsSpell ds tokens rest → DeclsFit ds → program_nodes ds + length rest ≤ length tokens

@@ -1,6 +1,6 @@
 -- What parsing answers, from the limits of a program that was read; and what the loop over tokens that are handed over
 -- gives, with the places of the refusals.
-use Rattle.std.proofs.Common.{◌≡◌, ℕ, ◌≤◌, ◌<◌, List, length, get_or, Some, None, Result, Ok, Err, sym, ap, subst, ◌∙◌, arith}
+use Rattle.std.proofs.Common.{◌≡◌, ℕ, ◌≤◌, ◌<◌, true, List, length, get_or, Some, None, Result, Ok, Err, sym, ap, subst, ◌∙◌, arith}
 use Rattle.um_syntax.specs.declared.token.Token.{Token}
 use Rattle.um_tree.specs.declared.raw.RawProgram.{RawProgram}
 use Rattle.um_tree.specs.RawTree.{DeclSyntax, program_syntax}
@@ -19,9 +19,12 @@ use Rattle.um_parse.specs.ProgramLeast.{machine_of_programs}
 use Rattle.um_parse.specs.DeclGrammar.{IsProgram}
 use Rattle.um_parse.specs.ProgramHeights.{program_height}
 use Rattle.um_parse.specs.Parsed.{IsRead, Parsed, ReadAt, Limited}
+use Rattle.um_parse.specs.Spaced.{Rises}
+use Rattle.um_parse.specs.declared.program_parse.ReadProgram.{ReadProgram}
 use Rattle.um_parse.proofs.ProgramComplete.{one_program}
 use Rattle.um_parse.proofs.LimitLaws.{large_at}
 use Rattle.um_parse.proofs.ProgramLow.{programs_read}
+use Rattle.um_parse.proofs.ProgramPlaces.{program_spaced}
 
 pub limited_parsed : (tokens : List Token) (end : ℕ) (ds : List DeclSyntax) (answer : Result RawProgram ParseStop) → IsProgram tokens ds → program_height ds ≤ greatest_height → Limited ds answer → Parsed tokens end answer
 limited_parsed tokens end ds (Ok p) is low l = subst (IsRead tokens) (sym l.0) (record { is = is; only = λ other q. one_program tokens other ds q is; low = low; small = l.1 })
@@ -48,10 +51,12 @@ module _ (tokens : List Token) (end : ℕ) where
       (i, sym (place_at tokens i end x lt same), reads_all programs_read greatest_height tokens program_syntax (Err (read_stop.High i)) (too_high machine_of_programs greatest_height tokens i x old new lt same s t))
 
   -- all tokens are read
-  pub all_read : (i : ℕ) (state : ProgramState) (p : RawProgram) → i ≡ length tokens → StandsAt tokens i state → Some (program_syntax p) ≡ program_finish state → ReadAt tokens end (Ok p)
-  all_read i state p all s found =
+  pub all_read : (i : ℕ) (state : ProgramState) (read : ReadProgram) → i ≡ length tokens → StandsAt tokens i state → Some (program_syntax read.program) ≡ program_finish state → (read.spaced ≡ true → Rises 0 tokens end)
+      → ReadAt tokens end (Ok read)
+  all_read i state read all s found rise =
       let through_all = subst (λ k. StandsAt tokens k state) all s in
-      reads_all programs_read greatest_height tokens program_syntax (Ok p) (through_all.0, ap program_finish (sym through_all.1) ∙ sym found)
+      let is = reads_all programs_read greatest_height tokens program_syntax (Ok read.program) (through_all.0, ap program_finish (sym through_all.1) ∙ sym found) in
+      (is.0, is.1, λ spaced. program_spaced end (program_syntax read.program) tokens is.0 (rise spaced))
 
   -- all tokens are read, and are none
   pub none_read : (i : ℕ) (state : ProgramState) → i ≡ length tokens → StandsAt tokens i state → None ≡ program_finish state → Parsed tokens end (Err (stop.Syntax end))

@@ -9,4 +9,5 @@ pub mod Laws
 pub mod ProgramLeast
 pub mod ReaderStates
 pub mod ProgramNodes
+pub mod Spaced
 pub mod LimitsPassed

@@ -1,6 +1,6 @@
 -- What parsing a program answers.
 -- Source: this project's own.
-use Rattle.std.specs.Prelude.{◌≡◌, ℕ, ◌≤◌, List, Result, Ok, Err}
+use Rattle.std.specs.Prelude.{◌≡◌, ℕ, ◌≤◌, true, List, Result, Ok, Err}
 use Rattle.um_syntax.specs.declared.token.Token.{Token}
 use Rattle.um_tree.specs.declared.raw.RawProgram.{RawProgram}
 use Rattle.um_tree.specs.RawTree.{DeclSyntax, program_syntax}
@@ -13,6 +13,8 @@ use Rattle.um_parse.specs.DeclGrammar.{IsProgram}
 use Rattle.um_parse.specs.ProgramHeights.{program_height}
 use Rattle.um_parse.specs.ProgramLimits.{WithinLimits, PassesAt}
 use Rattle.um_parse.specs.ProgramStops.{StopsAt, HighAt}
+use Rattle.um_parse.specs.Spaced.{Spaced}
+use Rattle.um_parse.specs.declared.program_parse.ReadProgram.{ReadProgram}
 
 -- the tokens are this program and no other, and it is within the limits
 pub record IsRead (tokens : List Token) (ds : List DeclSyntax) : Type 0 where
@@ -41,8 +43,11 @@ Parsed tokens end (Err (stop.Limit kind at)) = LimitAt tokens end kind at
 Parsed tokens end (Err stop.NoMemory) = Unit {0}
 
 -- the tokens are this program, of an allowed height, whatever its other limits; or what `parse` answers
-abbrev pub ReadAt : List Token → ℕ → Result RawProgram ParseStop → Type 0
-ReadAt tokens end (Ok p) = IsProgram tokens (program_syntax p) × (program_height (program_syntax p) ≤ greatest_height)
+abbrev pub ReadAt : List Token → ℕ → Result ReadProgram ParseStop → Type 0
+ReadAt tokens end (Ok read) =
+    IsProgram tokens (program_syntax read.program)
+    × (program_height (program_syntax read.program) ≤ greatest_height)
+    × (read.spaced ≡ true → Spaced (program_syntax read.program) end)
 ReadAt tokens end (Err stop) = Parsed tokens end (Err stop)
 
 -- the program itself if it passes no limit besides its height; otherwise the first that it passes

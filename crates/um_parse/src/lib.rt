@@ -11,6 +11,7 @@ mod decl_prefix;
 mod decl_reader;
 pub mod laws;
 mod limits;
+mod places;
 mod program_parse;
 mod program_reader;
 

@@ -1,14 +1,19 @@
 // Parsing a program, with the places of its refusals in the text.
-ghost use Rattle.std.specs.Prelude.{◌<◌, ◌≤◌, ◌^◌, length};
+ghost use Rattle.std.specs.Prelude.{◌≡◌, ◌<◌, ◌≤◌, ◌^◌, true, IfOk, Err, length};
 ghost use Rattle.um_tree.specs.RawTree.{program_syntax};
 ghost use Rattle.um_reader.specs.ReadTo.{ReadAll};
+ghost use Rattle.um_reader.specs.Takes.{Takes};
 ghost use Rattle.um_unit_texts.specs.UnitStops.{greatest_height};
 ghost use Rattle.um_parse.specs.DeclGrammar.{IsProgram};
 ghost use Rattle.um_parse.specs.ProgramHeights.{program_height};
+ghost use Rattle.um_parse.specs.ProgramLeast.{program_least, machine_of_programs};
 ghost use Rattle.um_parse.specs.ProgramNodes.{program_nodes};
+ghost use Rattle.um_parse.specs.Spaced.{Spaced};
+ghost use Rattle.um_parse.specs.ReaderStates.{program_state};
 ghost use Rattle.um_parse.specs.Parsed.{Parsed, ReadAt, Limited};
 
 use crate::limits::first_passed;
+use crate::places::Places;
 use crate::program_reader::ProgramReader;
 use std::alloc::{AllocError, Global};
 use um_reader::{ReadStop, Reader, Taken, read_all};
@@ -17,12 +22,13 @@ use um_tree::RawProgram;
 use um_types::{LimitKind, ParseStop};
 use um_unit_texts::place;
 
-// The program, if it passes no limit besides its height.
-fn limited(program: RawProgram) -> Result<RawProgram, ParseStop>
+// The program, if it passes no limit besides its height. `end` is the length of the text.
+fn limited(program: RawProgram, end: u32, spaced: bool) -> Result<RawProgram, ParseStop>
     requires few { program_nodes (program_syntax program) < 2 ^ 32 }
+    requires spaced { spaced ≡ true → Spaced (program_syntax program) end }
     ensures { Limited (program_syntax program) result }
 {
-    match first_passed(&program.items) {
+    match first_passed(&program.items, end, spaced) {
         Some(passed) => {
             drop(program);
             Err(ParseStop::Limit {
@@ -63,7 +69,7 @@ pub fn parse(alloc: Global, tokens: &[Token], end: u32) -> Result<RawProgram, Pa
     ensures parsed { Parsed tokens.now end result }
 {
     match read_program(alloc, tokens) {
-        Ok(program) => limited(program),
+        Ok(program) => limited(program, end, false),
         Err(ReadStop::Syntax(k)) => {
             Err(ParseStop::Syntax {
                 at: place(tokens, k, end),
@@ -77,47 +83,58 @@ pub fn parse(alloc: Global, tokens: &[Token], end: u32) -> Result<RawProgram, Pa
     }
 }
 
-// The program that these tokens are, whatever its other limits. Readers move out of the tokens what they keep.
-fn read_in_place(alloc: Global, tokens: &mut [Token], end: u32) -> Result<RawProgram, ParseStop>
-    ensures { ReadAt tokens.old end result }
+/// A program, and whether it is known that each function has room for its nodes in the text.
+#[derive(Drop)]
+pub struct ReadProgram {
+    pub program: RawProgram,
+    pub spaced: bool,
+}
+
+// One token more, which is let go at once. The reader moves out of it what it keeps.
+fn take_token(alloc: Global, reader: &mut ProgramReader, token: Token) -> Result<Taken, AllocError>
+    requires low { program_least (program_state reader.old) ≤ greatest_height }
+    ensures { IfOk result (λ t. Takes machine_of_programs greatest_height (program_state reader.old) token t
+        (program_state reader.new)) }
+{
+    let mut token = token;
+    let taken = reader.take(alloc, &mut token);
+    drop(token);
+    taken
+}
+
+// Nothing more is read.
+fn stopped(reader: ProgramReader, stop: ParseStop) -> Result<ReadProgram, ParseStop>
+    ensures { result ≡ Err stop }
+{
+    drop(reader);
+    Err(stop)
+}
+
+// The program that these tokens are, whatever its other limits.
+fn read_tokens(alloc: Global, tokens: Tokens, end: u32) -> Result<ReadProgram, ParseStop>
+    ensures { ReadAt tokens end result }
 {
     let mut reader = ProgramReader::new(alloc);
-    for i in 0..tokens.len() {
-        let at = tokens[i].start;
-        match reader.take(alloc, &mut tokens[i]) {
+    let mut places = Places::none();
+    for token in tokens.into_vec() {
+        let at = token.start;
+        places.add(at);
+        match take_token(alloc, &mut reader, token) {
             Ok(Taken::Goes) => {}
-            Ok(Taken::Stops) => {
-                drop(reader);
-                return Err(ParseStop::Syntax { at });
-            }
+            Ok(Taken::Stops) => return stopped(reader, ParseStop::Syntax { at }),
             Ok(Taken::High) => {
-                drop(reader);
-                return Err(ParseStop::Limit {
-                    kind: LimitKind::Height,
-                    at,
-                });
+                let kind = LimitKind::Height;
+                return stopped(reader, ParseStop::Limit { kind, at });
             }
-            Err(_) => {
-                drop(reader);
-                return Err(ParseStop::NoMemory);
-            }
+            Err(_) => return stopped(reader, ParseStop::NoMemory),
         }
     }
+    let spaced = places.rise_to(end);
     match reader.finish(alloc) {
-        Ok(Some(program)) => Ok(program),
+        Ok(Some(program)) => Ok(ReadProgram { program, spaced }),
         Ok(None) => Err(ParseStop::Syntax { at: end }),
         Err(_) => Err(ParseStop::NoMemory),
     }
-}
-
-// The same of tokens that are handed over.
-fn read_tokens(alloc: Global, tokens: Tokens, end: u32) -> Result<RawProgram, ParseStop>
-    ensures { ReadAt tokens end result }
-{
-    let mut tokens = tokens.into_vec();
-    let program = read_in_place(alloc, &mut tokens, end);
-    drop(tokens);
-    program
 }
 
 /// The program that the tokens are, as [`parse`] gives it, and with its errors. The tokens are handed over: a name
@@ -126,6 +143,6 @@ pub fn parse_tokens(alloc: Global, tokens: Tokens, end: u32) -> Result<RawProgra
     requires text { length tokens ≤ end }
     ensures parsed { Parsed tokens end result }
 {
-    let program = read_tokens(alloc, tokens, end)?;
-    limited(program)
+    let ReadProgram { program, spaced } = read_tokens(alloc, tokens, end)?;
+    limited(program, end, spaced)
 }
