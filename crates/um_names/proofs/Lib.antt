@@ -21,4 +21,5 @@ pub mod FormedMore
 pub mod FormedDecls
 pub mod FormedFunctions
 pub mod FormedPrograms
+mod KnownParts
 pub mod RecordsFound

@@ -26,6 +26,6 @@ pub use adding::{add_base, add_short, copied};
 pub use known::Tables;
 pub use laws::records_by_their_fields;
 pub use records::add_record;
-pub use resolving::{Resolved, abbreviations, resolve, resolve_all};
+pub use resolving::{Resolved, abbreviations, resolve, resolve_all, resolve_tree};
 pub use types::{note, written};
 pub use um_measures::{Abbreviation, Abbreviations, NameStop, closed_unit};

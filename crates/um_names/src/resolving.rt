@@ -4,7 +4,7 @@ ghost use Rattle.std.specs.Prelude.{◌≡◌, Ok, IfOk, IfErr, OnOk, map};
 ghost use Rattle.um_tree.specs.ProgramTree.{program_tree};
 ghost use Rattle.um_tree.specs.RawTree.{decl_syntax, program_syntax};
 ghost use Rattle.um_names.specs.Resolution.{resolved_program, resolved_abbreviations};
-ghost use Rattle.um_names.specs.Resolution.{resolution, resolved_decls};
+ghost use Rattle.um_names.specs.Resolution.{resolution, resolved_decl, resolved_decls};
 ghost use Rattle.um_tree.specs.Formed.{IsFormed};
 ghost use Rattle.um_names.specs.Readable.{IsReadable};
 ghost use Rattle.um_measures.specs.Stops.{IsFirst};
@@ -44,12 +44,71 @@ fn declarations(alloc: Global, raw: &[RawDecl]) -> Result<Tables, NameStop>
     }
 }
 
+/// Takes this declaration into the tables, and lets it go.
+fn declare_last(alloc: Global, tables: &mut Tables, decl: RawDecl) -> Result<(), NameStop>
+    requires { AreTables tables.old }
+    ensures tables { OnOk result (AreTables tables.new) }
+    ensures exact { OnOk result (resolved_decl (known_of tables.old) (decl_syntax decl) ≡ Ok (known_of tables.new)) }
+    ensures faults { IfErr result (IsFirst (resolved_decl (known_of tables.old) (decl_syntax decl))) }
+{
+    let declared = declare(alloc, tables, &decl);
+    drop(decl);
+    declared
+}
+
+/// Takes these declarations into the tables, one after another. The memory of each serves the program of the next.
+fn declare_each(alloc: Global, tables: &mut Tables, raw: Vec<RawDecl>) -> Result<(), NameStop>
+    requires { AreTables tables.old }
+    ensures exact { OnOk result (resolved_decls (known_of tables.old) (map decl_syntax raw.items)
+        ≡ Ok (known_of tables.new)) }
+    ensures faults { IfErr result (IsFirst (resolved_decls (known_of tables.old) (map decl_syntax raw.items))) }
+{
+    for decl in raw {
+        declare_last(alloc, tables, decl)?;
+    }
+    Ok(())
+}
+
+/// The tables behind these declarations, which are handed over.
+fn tables_of(alloc: Global, raw: Vec<RawDecl>) -> Result<Tables, NameStop>
+    ensures exact { IfOk result (λ t. resolution (map decl_syntax raw.items) ≡ Ok (known_of t)) }
+    ensures faults { IfErr result (IsFirst (resolution (map decl_syntax raw.items))) }
+{
+    let mut tables = Tables::new(alloc, declarations_digest(&raw));
+    match declare_each(alloc, &mut tables, raw) {
+        Ok(()) => Ok(tables),
+        Err(stop) => {
+            drop(tables);
+            Err(stop)
+        }
+    }
+}
+
 /// The program of a raw tree, with its abbreviations.
 #[derive(Drop)]
 pub struct Resolved {
     pub program: Program,
     /// In order of declaration, each with its closed unit.
     pub abbreviations: Abbreviations,
+}
+
+/// The program and the abbreviations of these tables.
+fn known_parts(tables: Tables) -> Resolved
+    ensures program { program_tree result.program ≡ (known_of tables).program }
+    ensures abbreviations { result.abbreviations ≡ (known_of tables).shorts }
+{
+    Resolved {
+        program: Program {
+            bases: Names::from_vec(tables.bases),
+            records: Records {
+                items: tables.records,
+            },
+            functions: Functions {
+                items: tables.functions,
+            },
+        },
+        abbreviations: Abbreviations::from_vec(tables.shorts),
+    }
 }
 
 /// The program of a raw tree, each of whose names is known where it stands, and its abbreviations.
@@ -63,18 +122,19 @@ pub fn resolve_all(alloc: Global, raw: &RawProgram) -> Result<Resolved, NameStop
     ensures faults { IfErr result (IsFirst (resolved_program (program_syntax raw.now))) }
 {
     let tables = declarations(alloc, &raw.items)?;
-    Ok(Resolved {
-        program: Program {
-            bases: Names::from_vec(tables.bases),
-            records: Records {
-                items: tables.records,
-            },
-            functions: Functions {
-                items: tables.functions,
-            },
-        },
-        abbreviations: Abbreviations::from_vec(tables.shorts),
-    })
+    Ok(known_parts(tables))
+}
+
+/// The same of a raw tree that is handed over. Each declaration is let go after it was resolved, so that a tree and its
+/// program don't stand side by side.
+pub fn resolve_tree(alloc: Global, raw: RawProgram) -> Result<Resolved, NameStop>
+    ensures exact { IfOk result (λ all. resolved_program (program_syntax raw) ≡ Ok (program_tree all.program)) }
+    ensures formed { IfOk result (λ all. IsReadable (program_syntax raw) → IsFormed (program_tree all.program)) }
+    ensures abbreviated { IfOk result (λ all. resolved_abbreviations (program_syntax raw) ≡ Ok all.abbreviations) }
+    ensures faults { IfErr result (IsFirst (resolved_program (program_syntax raw))) }
+{
+    let tables = tables_of(alloc, raw.items)?;
+    Ok(known_parts(tables))
 }
 
 /// The program of a raw tree, each of whose names is known where it stands.
