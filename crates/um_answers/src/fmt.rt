@@ -6,7 +6,7 @@ ghost use Rattle.um_answers.specs.FmtAnswer.{FmtAnswer, IsLayout};
 use std::alloc::Global;
 use um_front::{Answer, ReadText, Text, read};
 use um_reports::{Reply, Status};
-use um_show::program_text;
+use um_show::layout_text;
 
 /// The answer to `fmt` about a text.
 ///
@@ -25,10 +25,10 @@ pub fn answer_fmt(alloc: Global, text: Text) -> Answer
 fn reply_layout(alloc: Global, read: ReadText) -> Answer
     ensures { IfOk result (λ reply. IsLayout (program_syntax read.raw) reply.text.items reply.status) }
 {
-    let text = program_text(alloc, &read.raw);
-    drop(read);
+    let ReadText { bytes, raw } = read;
+    drop(bytes);
     Ok(Reply {
-        text: text?,
+        text: layout_text(alloc, raw)?,
         status: Status::Done,
     })
 }

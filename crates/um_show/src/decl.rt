@@ -29,6 +29,32 @@ pub fn program_text(alloc: Global, raw: &RawProgram) -> Result<Vec<u8>, NoMemory
     Ok(text)
 }
 
+/// The same of a program that is handed over. Each declaration is let go after its line was written.
+pub fn layout_text(alloc: Global, raw: RawProgram) -> Result<Vec<u8>, NoMemory>
+    ensures { IfOk result (λ text. text.items ≡ layout (program_syntax raw)) }
+{
+    let mut text = Vec::new(alloc);
+    push_each(&mut text, raw.items)?;
+    Ok(text)
+}
+
+fn push_each(text: &mut Vec<u8>, decls: Vec<RawDecl>) -> Result<(), AllocError>
+    ensures { OnOk result (text.new.items ≡ text.old.items ++ layout (map decl_syntax decls.items)) }
+{
+    for decl in decls {
+        push_last(text, decl)?;
+    }
+    Ok(())
+}
+
+fn push_last(text: &mut Vec<u8>, decl: RawDecl) -> Result<(), AllocError>
+    ensures { OnOk result (text.new.items ≡ text.old.items ++ text_of (line_pieces (decl_syntax decl))) }
+{
+    let pushed = push_line(text, &decl);
+    drop(decl);
+    pushed
+}
+
 fn push_lines(text: &mut Vec<u8>, decls: &[RawDecl]) -> Result<(), AllocError>
     ensures { OnOk result (text.new.items ≡ text.old.items ++ layout (map decl_syntax decls.now)) }
 {

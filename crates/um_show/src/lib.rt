@@ -19,7 +19,7 @@ mod types;
 mod unit;
 mod value;
 
-pub use decl::program_text;
+pub use decl::{layout_text, program_text};
 pub use number::number_text;
 pub use printed_scheme::scheme_text;
 pub use printed_type::{push_named_type, type_text};
