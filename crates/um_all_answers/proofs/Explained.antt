@@ -128,8 +128,8 @@ module _ (decided : ProgramsAreDecided) (bytes : List ℕ) where
       unchecked_follows (inr (s, is, reply)) =
           let p = s.program in
           let w = is.written in
-          let (rest, told) = scheme_rest reasons units less_general s.raw p (shaped_is_formed bytes s is) (shapes p is.faultless) (infer p) refl (λ schemes e. subst (λ (r : Inference). IsUntypedReply bytes text status p r) e reply) in
-          inr (rest, inr (w.tokens, w.lexed, inr (s.raw, w.read, inr (p, is.resolved, inr (is.faultless, told)))))
+          let (rest, told) = scheme_rest reasons units less_general is.raw p (shaped_is_formed bytes s is) (shapes p is.faultless) (infer p) refl (λ schemes e. subst (λ (r : Inference). IsUntypedReply bytes text status p r) e reply) in
+          inr (rest, inr (w.tokens, w.lexed, inr (is.raw, w.read, inr (p, is.resolved, inr (is.faultless, told)))))
 
       refusal_explained : IsUnchecked bytes text status → HasAnswer ExplainAnswer bytes
       unfolding ExplainAnswer TypesAnswer

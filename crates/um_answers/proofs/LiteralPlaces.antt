@@ -61,6 +61,6 @@ module _ (P : ℕ → Type 0) (cs : List Frac) where
 pub literals_begin_tokens : LiteralsBeginTokens
 literals_begin_tokens bytes s cs at shaped is =
     let read = shaped.written in
-    let places = programs_begin_tokens read.tokens s.raw s.program read.read.is shaped.resolved in
+    let places = programs_begin_tokens read.tokens shaped.raw s.program read.read.is shaped.resolved in
     let all = functions_hold (BeginsToken read.tokens) cs s.program.functions places.functions in
     (read.tokens, read.lexed, inl (subst (PlaceHolds (BeginsToken read.tokens) cs) is all))

@@ -24,7 +24,7 @@ pub short_names : (bytes : List ℕ) (s : ShapedTree) → IsShapedText bytes s �
 short_names bytes s is =
     let n = length bytes in
     let few = is.written.short in
-    let within = names_within bytes is.written.tokens s.raw s.program is.written.lexed is.written.read is.resolved in record {
+    let within = names_within bytes is.written.tokens is.raw s.program is.written.lexed is.written.read is.resolved in record {
       records = All-weaker (λ (d : RecordTree). (length d.name ≤ n) × All (λ (f : FieldTree). length f.name ≤ n) d.fields) (λ (d : RecordTree). IsShortName d.name × All (λ (f : FieldTree). IsShortName f.name) d.fields) (short_record bytes few) s.program.records within.records;
       functions = All-weaker (λ (f : FunctionTree). length f.name ≤ n) (λ (f : FunctionTree). IsShortName f.name) (short_function bytes few) s.program.functions within.functions;
     }

@@ -36,8 +36,9 @@ module _ (bytes : List ℕ) where
     unfolding IsUnshaped
     shaped known is None fault =
         inl (
-          record { raw = raw; program = known.program; abbreviations = known.shorts },
+          record { program = known.program; abbreviations = known.shorts },
           record {
+            raw = raw;
             written = read;
             resolved = ap (λ r. and_then r (λ k. Ok k.program)) is;
             abbreviated = ap (λ r. and_then r (λ k. Ok k.shorts)) is;

@@ -54,10 +54,10 @@ module _ (bytes line : List ℕ) (answered : Status) where
 
   module _ (raw : List DeclSyntax) (p : ProgramTree) (names : HasNames bytes raw p) (faultless : first_fault p ≡ None) where
     abbrev tree : ShapedTree
-    tree = record { raw = raw; program = p; abbreviations = names.shorts }
+    tree = record { program = p; abbreviations = names.shorts }
 
     shaped : IsShapedText bytes tree
-    shaped = record { written = names.read; resolved = names.resolved; abbreviated = names.abbreviated; faultless = faultless }
+    shaped = record { raw = raw; written = names.read; resolved = names.resolved; abbreviated = names.abbreviated; faultless = faultless }
 
     pub schemes_refused : IsUntypedReply bytes line answered p (infer p) → IsRefused bytes line answered
     unfolding IsUnchecked

@@ -16,10 +16,10 @@ pub read_is_readable : (bytes : List ℕ) (raw : List DeclSyntax) → IsReadText
 read_is_readable bytes raw is = readable_program bytes is.tokens raw is.lexed.0 is.short is.lexed.1 is.read
 
 pub shaped_is_formed : (bytes : List ℕ) (s : ShapedTree) → IsShapedText bytes s → IsFormed s.program
-shaped_is_formed bytes s is = resolution_formed s.raw s.program (read_is_readable bytes s.raw is.written) is.resolved
+shaped_is_formed bytes s is = resolution_formed is.raw s.program (read_is_readable bytes is.raw is.written) is.resolved
 
 pub units_are_closed : (bytes : List ℕ) (s : ShapedTree) → IsShapedText bytes s → AreClosedUnits (length s.program.bases) s.abbreviations
-units_are_closed bytes s is = abbreviations_are_closed s.raw s.program s.abbreviations is.resolved is.abbreviated
+units_are_closed bytes s is = abbreviations_are_closed is.raw s.program s.abbreviations is.resolved is.abbreviated
 
 pub checked_is_known : (bytes : List ℕ) (c : CheckedTree) → IsCheckedText bytes c → AreKnown c.text.program c.text.abbreviations c.schemes
 checked_is_known bytes c is = record {

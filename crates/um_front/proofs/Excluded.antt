@@ -99,12 +99,12 @@ one_read bytes raw other a b =
 
 pub one_shaped : (bytes : List ℕ) (s other : ShapedTree) → IsShapedText bytes s → IsShapedText bytes other → s ≡ other
 one_shaped bytes s other a b =
-    let raw : s.raw ≡ other.raw = one_read bytes s.raw other.raw a.written b.written in
+    let raw : a.raw ≡ b.raw = one_read bytes a.raw b.raw a.written b.written in
     let programs : Ok s.program ≡ Ok other.program = sym a.resolved ∙ (λ i. resolved_program (raw i)) ∙ b.resolved in
     let program : s.program ≡ other.program = cc programs in
     let both = sym a.abbreviated ∙ (λ i. resolved_abbreviations (raw i)) ∙ b.abbreviated in
     let abbreviations : s.abbreviations ≡ other.abbreviations = cc both in
-    λ i. record { raw = raw i; program = program i; abbreviations = abbreviations i }
+    λ i. record { program = program i; abbreviations = abbreviations i }
 
 pub one_checked : (bytes : List ℕ) (c other : CheckedTree) → IsCheckedText bytes c → IsCheckedText bytes other → c ≡ other
 one_checked bytes c other a b =
@@ -126,12 +126,12 @@ module _ (bytes text : List ℕ) (status : Status) where
 
   pub shaped_is_not_refused : (s : ShapedTree) → IsShapedText bytes s → IsUnshaped bytes text status → ⊥
   unfolding IsUnshaped
-  shaped_is_not_refused s is (inl unread) = read_is_not_refused s.raw is.written unread
+  shaped_is_not_refused s is (inl unread) = read_is_not_refused is.raw is.written unread
   shaped_is_not_refused s is (inr (inl (raw, written, stop, refused, reply))) =
-      let same : s.raw ≡ raw = one_read bytes s.raw raw is.written written in
+      let same : is.raw ≡ raw = one_read bytes is.raw raw is.written written in
       not_faulty raw s.program stop bytes text status (subst (λ (ds : List DeclSyntax). resolved_program ds ≡ Ok s.program) same is.resolved) refused reply
   shaped_is_not_refused s is (inr (inr (raw, written, p, resolved, stop, refused, reply))) =
-      let same : s.raw ≡ raw = one_read bytes s.raw raw is.written written in
+      let same : is.raw ≡ raw = one_read bytes is.raw raw is.written written in
       let both : Ok s.program ≡ Ok p = sym (subst (λ (ds : List DeclSyntax). resolved_program ds ≡ Ok s.program) same is.resolved) ∙ resolved in
       let program : s.program ≡ p = cc both in
       not_refused p stop bytes text status (subst (λ (q : ProgramTree). first_fault q ≡ None) program is.faultless) refused reply

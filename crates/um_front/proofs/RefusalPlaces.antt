@@ -111,8 +111,8 @@ module _ (bytes text : List ℕ) (status : Status) where
   unfolding IsUnchecked
   unchecked (inl u) = unshaped u
   unchecked (inr (s, shaped, reply)) =
-      let h = places s.raw shaped.written s.program shaped.resolved in
-      no_schemes s.raw shaped.written s.program shaped.resolved (infer s.program) (inference_holds (BeginsToken shaped.written.tokens) s.program h) reply
+      let h = places shaped.raw shaped.written s.program shaped.resolved in
+      no_schemes shaped.raw shaped.written s.program shaped.resolved (infer s.program) (inference_holds (BeginsToken shaped.written.tokens) s.program h) reply
 
 pub refusals_tell_places : RefusalsTellPlaces
 refusals_tell_places bytes text status refused = unchecked bytes text status refused

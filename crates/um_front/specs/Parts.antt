@@ -1,6 +1,5 @@
 -- Mirrors the code: what its values stand for.
 -- Source: this project's own.
-use Rattle.um_tree.specs.RawTree.{program_syntax}
 use Rattle.um_tree.specs.ProgramTree.{program_tree}
 use Rattle.um_infer.specs.Answers.{scheme_trees}
 use Rattle.um_front.specs.declared.parts.ShapedText.{ShapedText}
@@ -9,7 +8,6 @@ use Rattle.um_front.specs.Stages.{ShapedTree, CheckedTree}
 
 abbrev pub shaped_tree : ShapedText → ShapedTree
 shaped_tree s = record {
-  raw = program_syntax s.text.raw;
   program = program_tree s.shaped;
   abbreviations = s.abbreviations;
 }

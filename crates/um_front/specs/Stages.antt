@@ -18,17 +18,17 @@ pub record IsReadText (bytes : List ℕ) (raw : List DeclSyntax) : Type 0 where
   pub lexed : IsTextAnswer bytes (Ok tokens)
   pub read : IsRead tokens raw
 
--- a program as it is written, what its names stand for, and its abbreviations with their closed units
+-- what the names of a program stand for, and its abbreviations with their closed units
 pub record ShapedTree : Type 0 where
-  pub raw : List DeclSyntax
   pub program : ProgramTree
   pub abbreviations : List Abbreviation
 
 -- The text is read; its names stand for this program and these abbreviations; and each node has its shape.
 pub record IsShapedText (bytes : List ℕ) (s : ShapedTree) : Type 0 where
-  pub written : IsReadText bytes s.raw
-  pub resolved : resolved_program s.raw ≡ Ok s.program
-  pub abbreviated : resolved_abbreviations s.raw ≡ Ok s.abbreviations
+  pub raw : List DeclSyntax
+  pub written : IsReadText bytes raw
+  pub resolved : resolved_program raw ≡ Ok s.program
+  pub abbreviated : resolved_abbreviations raw ≡ Ok s.abbreviations
   pub faultless : first_fault s.program ≡ None
 
 -- such a program, and a scheme for each of its functions

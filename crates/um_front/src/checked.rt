@@ -3,9 +3,9 @@ use crate::parts::CheckedParts;
 use std::marker::Model;
 use um_measures::Abbreviations;
 use um_shape::Shaped;
-use um_tree::{Program, RawProgram, Schemes};
+use um_tree::{Program, Schemes};
 
-/// A text with its program as it is written, its shapes, its abbreviations and the schemes of its functions.
+/// A text with its program, the shapes of its nodes, its abbreviations and the schemes of its functions.
 ///
 /// Contracts see its parts. They are those of the text: `IsCheckedText` holds of each such value.
 #[derive(Drop)]
@@ -52,14 +52,6 @@ impl Checked {
         ensures checked { IsCheckedText self.now.text.text.bytes.items (checked_tree self.now) }
     {
         &self.parts.text.text.bytes
-    }
-
-    /// The program as it is written. Takes no memory.
-    pub fn raw(&self) -> &RawProgram
-        ensures raw { result.now ≡ self.now.text.text.raw }
-        ensures checked { IsCheckedText self.now.text.text.bytes.items (checked_tree self.now) }
-    {
-        &self.parts.text.text.raw
     }
 
     /// The program with its shapes. Takes no memory.

@@ -23,7 +23,7 @@ mod tree;
 pub use checked::Checked;
 pub use checking::{SolvedText, check, check_solved, function_at, reply_to_untyped};
 pub use laws::{refusals_tell_places, word_refusals_tell_places};
-pub use parts::{CheckedParts, ReadText, ShapedText};
+pub use parts::{CheckedParts, ReadText, ShapedText, SourceText};
 pub use reading::Reading;
 pub use shaping::shape_text;
 pub use text::{Text, TextParts};

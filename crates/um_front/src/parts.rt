@@ -10,10 +10,16 @@ pub struct ReadText {
     pub raw: RawProgram,
 }
 
-/// A text that was read, its program with a shape for each node, and its abbreviations.
+/// The bytes of a text. Its program as it is written isn't kept beside them: no answer after the names asks for it.
+#[derive(Drop)]
+pub struct SourceText {
+    pub bytes: Vec<u8>,
+}
+
+/// A text, its program with a shape for each node, and its abbreviations.
 #[derive(Drop)]
 pub struct ShapedText {
-    pub text: ReadText,
+    pub text: SourceText,
     pub shaped: Shaped,
     pub abbreviations: Abbreviations,
 }

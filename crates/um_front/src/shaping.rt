@@ -1,23 +1,21 @@
 // From a program as it is written to its names and its shapes.
-ghost use Rattle.std.specs.Prelude.{◌≡◌, IfErr, IfOk, Ok};
+ghost use Rattle.std.specs.Prelude.{◌≡◌, IfErr, IfOk, List, Ok};
 ghost use Rattle.um_tree.specs.Formed.{IsFormed};
 ghost use Rattle.um_tree.specs.ProgramTree.{program_tree};
-ghost use Rattle.um_tree.specs.RawTree.{program_syntax};
+ghost use Rattle.um_tree.specs.RawTree.{DeclSyntax, program_syntax};
 ghost use Rattle.um_names.specs.Resolution.{resolved_program, resolved_abbreviations};
 ghost use Rattle.um_front.specs.Parts.{shaped_tree};
 ghost use Rattle.um_front.specs.Stages.{IsReadText, IsShapedText};
 ghost use Rattle.um_front.specs.Refused.{IsUnshaped};
 
 use crate::Answer;
-use crate::parts::{ReadText, ShapedText};
+use crate::parts::{ReadText, ShapedText, SourceText};
 use crate::text::Text;
 use crate::tree::read;
 use std::alloc::Global;
-use um_measures::Abbreviations;
-use um_names::resolve_all;
+use um_names::{Resolved, resolve_tree};
 use um_reports::{reply_to_names, reply_to_shapes};
 use um_shape::shape;
-use um_tree::Program;
 
 /// The program of a text with its shapes, and its abbreviations, or the answer to a text without them.
 ///
@@ -43,44 +41,38 @@ fn shape_read(alloc: Global, text: ReadText) -> Result<ShapedText, Answer>
     ensures refused { IfErr result (λ answer. IfOk answer (λ reply.
         IsUnshaped text.bytes.items reply.text.items reply.status)) }
 {
-    match resolve_all(alloc, &text.raw) {
-        Ok(all) => shape_resolved(alloc, text, all.program, all.abbreviations),
-        Err(stop) => {
-            let refused = reply_to_names(alloc, &text.bytes, stop);
-            drop(text);
-            Err(refused)
-        }
+    let ReadText { bytes, raw } = text;
+    match resolve_tree(alloc, raw) {
+        Ok(all) => shape_resolved(alloc, bytes, all),
+        Err(stop) => Err(reply_to_names(alloc, &bytes, stop)),
     }
 }
 
 /// The same of a text whose names are known.
 #[tactic(auto, unfolding(crate::specs::Refused::IsUnshaped))]
-fn shape_resolved(
-    alloc: Global,
-    text: ReadText,
-    program: Program,
-    abbreviations: Abbreviations,
-) -> Result<ShapedText, Answer>
-    requires read { IsReadText text.bytes.items (program_syntax text.raw) }
-    requires resolved { resolved_program (program_syntax text.raw) ≡ Ok (program_tree program) }
-    requires abbreviated { resolved_abbreviations (program_syntax text.raw) ≡ Ok abbreviations }
-    requires formed { IsFormed (program_tree program) }
-    ensures bytes { IfOk result (λ shaped. shaped.text.bytes.items ≡ text.bytes.items) }
-    ensures shaped { IfOk result (λ shaped. IsShapedText text.bytes.items (shaped_tree shaped)) }
+fn shape_resolved(alloc: Global, bytes: Vec<u8>, all: Resolved) -> Result<ShapedText, Answer>
+    requires resolved { (raw : List DeclSyntax) × IsReadText bytes.items raw
+        × (resolved_program raw ≡ Ok (program_tree all.program))
+        × (resolved_abbreviations raw ≡ Ok all.abbreviations) }
+    requires formed { IsFormed (program_tree all.program) }
+    ensures bytes { IfOk result (λ shaped. shaped.text.bytes.items ≡ bytes.items) }
+    ensures shaped { IfOk result (λ shaped. IsShapedText bytes.items (shaped_tree shaped)) }
     ensures refused { IfErr result (λ answer. IfOk answer (λ reply.
-        IsUnshaped text.bytes.items reply.text.items reply.status)) }
+        IsUnshaped bytes.items reply.text.items reply.status)) }
 {
+    let Resolved {
+        program,
+        abbreviations,
+    } = all;
     match shape(alloc, program) {
         Ok(shaped) => Ok(ShapedText {
-            text,
+            text: SourceText { bytes },
             shaped,
             abbreviations,
         }),
         Err(stop) => {
-            let refused = reply_to_shapes(alloc, &text.bytes, stop);
-            drop(text);
             drop(abbreviations);
-            Err(refused)
+            Err(reply_to_shapes(alloc, &bytes, stop))
         }
     }
 }

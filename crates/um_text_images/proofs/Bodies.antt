@@ -113,4 +113,4 @@ program_low ds p h e =
     subst (λ (q : ProgramTree). All Low q.functions) same (decls_low nothing ds w.0 (All-nil Low) h w.1)
 
 pub text_low : (bytes : List ℕ) (s : ShapedTree) → IsShapedText bytes s → All Low s.program.functions
-text_low bytes s is = program_low s.raw s.program (bodies s.raw is.written.tokens [] is.written.read.is.spelled) is.resolved
+text_low bytes s is = program_low is.raw s.program (bodies is.raw is.written.tokens [] is.written.read.is.spelled) is.resolved

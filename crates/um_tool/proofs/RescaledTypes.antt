@@ -44,10 +44,10 @@ rescaled_texts_have_the_schemes read schemes words bytes text ordered answer sho
     let c = s.checked in
     let p = c.text.program in
     let new = read_again (rescale_sizes words) bytes text read s found.1 found.2 in
-    let again = new.1 in
-    let alike : unplaced_program again.program ≡ unplaced_program (rescaled_program s.scales p) = new.3 ∙ ap unplaced_program found.1 in
+    let again = new.2 in
+    let alike : unplaced_program again.program ≡ unplaced_program (rescaled_program s.scales p) = new.4 ∙ ap unplaced_program found.1 in
     let inferred : infer again.program ≡ all_schemes c.schemes = given_schemes (infer again.program) c.schemes (schemes s.scales p again.program alike ∙ ap unplaced_inference s.spelled.inferred) in
     let other : CheckedTree = record { text = again; schemes = c.schemes } in
-    let is : IsCheckedText text other = record { shaped = new.5 short; inferred = inferred } in
+    let is : IsCheckedText text other = record { shaped = new.6 short; inferred = inferred } in
     let lines = scheme_lines p p.functions c.schemes in
     (lines, types_answered bytes lines Done (lines_answered bytes lines c s.spelled refl), types_answered text lines Done (lines_answered text lines other is (sym (lines_stay s.scales p again.program c.schemes alike))))

@@ -2,6 +2,7 @@
 use Rattle.std.proofs.Common.{◌≡◌, ℕ, ◌≤◌, IsTrue, List, length, map, Option, Result, Ok, Err, Some, None, MatchOption, inl, inr, refl, sym, ap, subst, ◌∙◌}
 use Rattle.um_frac.specs.declared.number.Frac.{Frac}
 use Rattle.um_syntax.specs.declared.token.Token.{Token}
+use Rattle.um_tree.specs.RawTree.{DeclSyntax}
 use Rattle.um_tree.specs.ValueTree.{without_units}
 use Rattle.um_tree.specs.ProgramTree.{ProgramTree}
 use Rattle.um_tree.specs.Meaning.{outcome_of_call}
@@ -86,26 +87,27 @@ module _ (word bytes text : List ℕ) where
       checked_says r.0 r.1 r.2
 
   pub read_again : RescaledTextsAreReadAgain → (s : InSizes word bytes) → s.other ≡ rescaled_program s.scales s.checked.text.program → IsRescaledText bytes s.other text
-      → (tokens : List Token) × (again : ShapedTree) × Spells text tokens again.raw again.program × (unplaced_program again.program ≡ unplaced_program s.other) × (again.abbreviations ≡ s.checked.text.abbreviations) × (length text ≤ 1048576 → IsShapedText text again)
+      → (tokens : List Token) × (raw : List DeclSyntax) × (again : ShapedTree) × Spells text tokens raw again.program × (unplaced_program again.program ≡ unplaced_program s.other) × (again.abbreviations ≡ s.checked.text.abbreviations) × (length text ≤ 1048576 → IsShapedText text again)
   read_again law s same is =
       let c = s.checked.text in
       let w = s.spelled.shaped in
       let tokens = w.written.tokens in
       let other = rescaled_program s.scales c.program in
       let new = respelled bytes (rescaled_numbers s.scales c.program) 0 tokens in
-      let spelled : Spells bytes tokens c.raw c.program = record { lexed = w.written.lexed; read = w.written.read.is; resolved = w.resolved } in
-      let out = law bytes tokens c.raw c.program s.scales (scales_are_positive c.program.bases word s.scales s.read) spelled in
+      let spelled : Spells bytes tokens w.raw c.program = record { lexed = w.written.lexed; read = w.written.read.is; resolved = w.resolved } in
+      let out = law bytes tokens w.raw c.program s.scales (scales_are_positive c.program.bases word s.scales s.read) spelled in
       let own : IsRescaledText bytes other new = (tokens, w.written.lexed.1, refl) in
       let text_is : text ≡ new = texts_are_unique bytes other text new (subst (λ q. IsRescaledText bytes q text) same is) own in
-      let again : ShapedTree = record { raw = out.1; program = out.2; abbreviations = c.abbreviations } in
+      let again : ShapedTree = record { program = out.2; abbreviations = c.abbreviations } in
       let spells : Spells text out.0 out.1 out.2 = subst (λ b. Spells b out.0 out.1 out.2) (sym text_is) out.3 in
       let shaped : length text ≤ 1048576 → IsShapedText text again = λ short. record {
+        raw = out.1;
         written = record { short = short; tokens = out.0; lexed = spells.lexed; read = out.6 w.written.read };
         resolved = spells.resolved;
         abbreviated = out.5 ∙ w.abbreviated;
         faultless = out.7 s.fit w.faultless;
       } in
-      (out.0, again, spells, out.4 ∙ ap unplaced_program (sym same), refl, shaped)
+      (out.0, out.1, again, spells, out.4 ∙ ap unplaced_program (sym same), refl, shaped)
 
 pub found_sizes : (words : List (List ℕ)) (bytes text : List ℕ) → order_of words ≡ Some Rescale → Answer words bytes text Done → IsInSizes (rescale_sizes words) bytes text
 unfolding Answer
@@ -120,7 +122,7 @@ pub rescaled_texts_are_read : RescaledTextsAreReadAgain → RescaledTextsAreRead
 rescaled_texts_are_read law words bytes text ordered answer =
     let r = found_sizes words bytes text ordered answer in
     let q = read_again (rescale_sizes words) bytes text law r.0 r.1 r.2 in
-    (r.0, q.0, q.1, q.2, q.3, q.4, q.5)
+    (r.0, q.0, q.1, q.2, q.3, q.4, q.5, q.6)
 
 -- ---- `twin`
 

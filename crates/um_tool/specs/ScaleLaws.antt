@@ -3,6 +3,7 @@
 use Rattle.std.specs.Prelude.{ℕ, ◌≡◌, ◌≤◌, IsTrue, List, length, map, None, Some, Ok}
 use Rattle.um_frac.specs.declared.number.Frac.{Frac}
 use Rattle.um_syntax.specs.declared.token.Token.{Token}
+use Rattle.um_tree.specs.RawTree.{DeclSyntax}
 use Rattle.um_tree.specs.ValueTree.{ValueTree, OutcomeTree, value_outcome}
 use Rattle.um_tree.specs.ValueTree.{InputTree, inputs_in_order, without_units}
 use Rattle.um_tree.specs.ProgramTree.{ProgramTree}
@@ -57,8 +58,9 @@ abbrev pub RescaledTextsAreRead : Type 0
 RescaledTextsAreRead =
     (words : List (List ℕ)) (bytes text : List ℕ) →
     order_of words ≡ Some Rescale → Answer words bytes text Done →
-    (s : InSizes (rescale_sizes words) bytes) × (tokens : List Token) × (again : ShapedTree)
-    × Spells text tokens again.raw again.program × (unplaced_program again.program ≡ unplaced_program s.other)
+    (s : InSizes (rescale_sizes words) bytes) × (tokens : List Token) × (raw : List DeclSyntax)
+    × (again : ShapedTree) × Spells text tokens raw again.program
+    × (unplaced_program again.program ≡ unplaced_program s.other)
     × (again.abbreviations ≡ s.checked.text.abbreviations) × (length text ≤ 1048576 → IsShapedText text again)
 
 -- So if it isn't longer, `types` answers it with status 0, and with the lines with which it answers the bytes.

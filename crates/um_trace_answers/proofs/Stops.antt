@@ -32,7 +32,7 @@ use Rattle.um_trace_answers.proofs.TracePlaces.{trace_holds}
 checked_places : (bytes : List ℕ) (c : CheckedTree) → IsCheckedText bytes c → All (λ (f : FunctionTree). EachPlace (IsPlace bytes) f.body) c.text.program.functions
 checked_places bytes c is =
     let written = is.shaped.written in
-    nodes_have_places bytes written.tokens c.text.raw c.text.program written.lexed written.read is.shaped.resolved
+    nodes_have_places bytes written.tokens is.shaped.raw c.text.program written.lexed written.read is.shaped.resolved
 
 all_of_map : {X Y : Type 0} (P : Y → Type 0) (f : X → Y) (xs : List X) (y : Y) (ys : List Y) → y ∷ ys ≡ map f xs → P y → All P ys → All (λ x. P (f x)) xs
 all_of_map P f xs y ys is p ps = λ k d l.
