@@ -17,7 +17,6 @@ mod stop;
 mod table;
 mod unit;
 mod variables;
-mod wildcard;
 
 pub use abbreviation::{Abbreviation, Abbreviations};
 pub use closed::{closed_unit, measures_of};
@@ -32,4 +31,3 @@ pub use stop::NameStop;
 pub use table::NameTable;
 pub use unit::{first_unknown, resolved_unit};
 pub use variables::{add_type_variables, named_variables};
-pub use wildcard::open_unit;

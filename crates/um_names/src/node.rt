@@ -17,9 +17,10 @@ use crate::known::Tables;
 use crate::types::note;
 use std::alloc::Global;
 use um_frac::Frac;
-use um_measures::{NameStop, NameTable, Scope, open_unit, same_binding};
+use um_measures::{NameStop, NameTable, Scope, same_binding};
 use um_tree::{Binder, Expr, Exprs, Name, Node, RawExpr, RawField, RawNote, RawType, UnitNote};
 use um_units::Unit;
+use um_wildcards::open_unit;
 
 /// What is known in the body of a function beside the declarations before it: the unit variables of its notes, and
 /// the function itself where it is `rec`.

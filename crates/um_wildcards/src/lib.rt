@@ -1,11 +1,16 @@
-//! The wildcard on a number.
+//! The wildcard on a number: 0 alone may leave its unit open.
+//!
+//! ```
+//! let unit = open_unit(Frac::zero(), at)?; // the unit of `0<_>` is left open
+//! ```
+#![tactic(auto)]
 
 ghost use Rattle.std.specs.Prelude.{◌≡◌, Ok, IfOk, IfErr};
 ghost use Rattle.um_measures.specs.Stops.{IsFirst};
 ghost use Rattle.um_measures.specs.Wildcards.{open_unit as unit_left_open};
 
-use crate::stop::NameStop;
 use um_frac::Frac;
+use um_measures::NameStop;
 use um_tree::UnitNote;
 
 /// The unit of a number with the wildcard, as `0<_>`: it stays open. `at` is the place of the number.
