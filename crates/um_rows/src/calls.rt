@@ -25,9 +25,10 @@ use crate::rules::mismatch;
 use crate::walker::Walk;
 use std::alloc::Global;
 use um_equal_types::{Row, RowStop, against, push_never, types_against};
-use um_slots::{Context, callee_units, copied, renamed};
+use um_slots::{Context, copied, renamed};
 use um_tree::{Scheme, Ty};
 use um_units::Unit;
+use um_uses::callee_units;
 
 /// The units of so many holes from the first on.
 pub(crate) fn hole_units(context: &Context, first: usize, many: usize) -> &[Unit]

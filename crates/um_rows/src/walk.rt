@@ -20,8 +20,9 @@ use crate::walker::Walk;
 use crate::{calls, leaves, records as values, rules};
 use std::alloc::{AllocError, Global};
 use um_equal_types::RowStop;
-use um_slots::{copied, record_units};
+use um_slots::copied;
 use um_tree::{Expr, Node, Ty};
+use um_uses::record_units;
 
 /// The type of a list's items.
 fn item_of(alloc: Global, list: &Ty) -> Result<Ty, AllocError>

@@ -17,7 +17,7 @@ use Rattle.um_tree.specs.Laws.{UnitNoteHas, NoteHas, ExprsHave, LiteralsAreClose
 use Rattle.um_tree.specs.Shapes.{type_shape, note_shape}
 use Rattle.um_tree.specs.InputType.{InputHas, EachInputHas, InputsHave}
 use Rattle.um_tree.specs.Formed.{IsTypeIn, IsNoteTreeIn, IsLiteral, IsFormedInput, AreFormedInputs}
-use Rattle.um_slots.specs.Holes.{record_holes}
+use Rattle.um_uses.specs.Holes.{record_holes}
 use Rattle.um_slots.specs.CallFunction.{open_note, item_shape, list_of, field_shapes, input_text, item_texts, input_texts}
 
 -- ---- types of a shape

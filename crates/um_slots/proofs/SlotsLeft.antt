@@ -6,7 +6,7 @@ use Rattle.um_tree.specs.ExprTree.{expr_tree}
 use Rattle.um_tree.specs.ProgramTree.{RecordTree}
 use Rattle.um_slots.specs.declared.stop.SlotStop.{SlotStop}
 use Rattle.um_slots.specs.declared.slots.Slots.{Slots}
-use Rattle.um_slots.specs.Holes.{Callee, expr_holes, exprs_holes}
+use Rattle.um_uses.specs.Holes.{Callee, expr_holes, exprs_holes}
 use Rattle.um_slots.specs.Keys.{Key, expr_keys, exprs_keys}
 use Rattle.um_slots.specs.Slotting.{HaveSlots}
 use Rattle.um_slots.proofs.Parts.{from, from_more, from_end}

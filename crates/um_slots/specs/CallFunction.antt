@@ -10,7 +10,7 @@ use Rattle.um_tree.specs.ValueTree.{no_inputs, more_inputs}
 use Rattle.um_tree.specs.ProgramTree.{RecordTree, FunctionTree}
 use Rattle.um_tree.specs.Typing.{field_types}
 use Rattle.um_tree.specs.Shapes.{type_shape, note_shape}
-use Rattle.um_slots.specs.Holes.{record_holes}
+use Rattle.um_uses.specs.Holes.{record_holes}
 
 -- the shape as a note, with a hole for each unit
 abbrev pub open_note : List RecordTree → ShapeTree → NoteTree

@@ -8,8 +8,8 @@ use Rattle.um_tree.specs.ProgramTree.{RecordTree, record_tree, scheme_tree, resu
 use Rattle.um_slots.specs.declared.context.Context.{Context}
 use Rattle.um_slots.specs.declared.definition.Definition.{Definition}
 use Rattle.um_slots.specs.declared.definition.Environment.{Environment}
-use Rattle.um_slots.specs.Holes.{Callee, notes_holes, result_holes, expr_holes, exprs_holes}
-use Rattle.um_slots.specs.Callees.{callee_of}
+use Rattle.um_uses.specs.Holes.{Callee, notes_holes, result_holes, expr_holes, exprs_holes}
+use Rattle.um_uses.specs.Callees.{callee_of}
 use Rattle.um_slots.specs.Keys.{Key, name_keys, notes_keys, result_keys, expr_keys, exprs_keys}
 use Rattle.um_slots.specs.Noted.{noted_types, noted_result}
 

@@ -10,8 +10,8 @@ use Rattle.um_tree.specs.ExprTree.{compare, both, either, if, bind, split, nil, 
 use Rattle.um_tree.specs.ExprTree.{none, more}
 use Rattle.um_tree.specs.ProgramTree.{RecordTree, FunctionTree, SchemeTree}
 use Rattle.um_tree.specs.Scheme.{unit_variables}
-use Rattle.um_slots.specs.Holes.{unit_holes, note_holes, notes_holes, Callee, callee_holes, record_holes, expr_holes}
-use Rattle.um_slots.specs.Callees.{callee, head_holes}
+use Rattle.um_uses.specs.Holes.{unit_holes, note_holes, notes_holes, Callee, callee_holes, record_holes, expr_holes}
+use Rattle.um_uses.specs.Callees.{callee, head_holes}
 
 -- what a slot stands for: the hole of a number, or a named variable
 pub data Key : Type 0 where

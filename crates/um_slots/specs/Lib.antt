@@ -1,7 +1,7 @@
 -- What a reader must trust, in reading order: the units that are left open, what a call goes to, the keys that ask for
 -- slots, slots, notes as types over them, a call as a function.
-pub mod Holes
-pub mod Callees
+pub use Rattle.um_uses.specs.Holes
+pub use Rattle.um_uses.specs.Callees
 pub mod Keys
 pub mod Slots
 pub mod Noted

@@ -6,7 +6,7 @@ use Rattle.um_tree.specs.declared.note.UnitNote.{UnitNote}
 use Rattle.um_tree.specs.declared.note.UnitNote.TheVariants.{Hole, Written}
 use Rattle.um_tree.specs.TypeTree.{TypeTree, bool_type, num_type, list_type, record_type, NoteTree, bool_note, num_note}
 use Rattle.um_tree.specs.TypeTree.{list_note, record_note}
-use Rattle.um_slots.specs.Holes.{unit_holes, note_holes}
+use Rattle.um_uses.specs.Holes.{unit_holes, note_holes}
 
 -- holes: the unit of each hole, by its number in the order of the text. names: the unit of each named variable. The
 -- holes of a note are numbered from n on

@@ -7,7 +7,7 @@ ghost use Rattle.um_units.specs.Range.{RangeUnless};
 ghost use Rattle.um_tree.specs.TypeTree.{type_tree, note_tree};
 ghost use Rattle.um_tree.specs.ProgramTree.{result_tree};
 ghost use Rattle.um_elim.specs.Application.{type_fits};
-ghost use Rattle.um_slots.specs.Holes.{notes_holes as holes_of_notes, result_holes as holes_of_result};
+ghost use Rattle.um_uses.specs.Holes.{notes_holes as holes_of_notes, result_holes as holes_of_result};
 ghost use Rattle.um_slots.specs.Noted.{noted_types, noted_result as result_noted};
 ghost use Rattle.um_slots.specs.Contexts.{IsContextOf};
 

@@ -7,10 +7,10 @@ ghost use Rattle.um_slots.specs.Slotting.{HaveSlots};
 ghost use Rattle.um_slots.specs.Contexts.{keys_in, all_keys_in, holes_in, all_holes_in};
 
 use crate::definition::Environment;
-use crate::left_open::{callee_units, record_units};
 use crate::slots::{Slots, note_slots, unit_slots};
 use crate::stop::SlotStop;
 use um_tree::{Expr, Node};
+use um_uses::{callee_units, record_units};
 
 /// Gives slots to the holes and the named variables of an expression.
 #[cycle(slots)]

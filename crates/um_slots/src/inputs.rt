@@ -10,9 +10,9 @@ ghost use Rattle.um_tree.specs.declared.note.UnitNote.TheVariants.{Hole};
 ghost use Rattle.um_slots.specs.CallFunction.{open_note as note_left_open, item_shape as shape_of_items};
 ghost use Rattle.um_slots.specs.CallFunction.{field_shapes as shapes_of_fields, input_text, item_texts, input_texts};
 
-use crate::left_open::record_units;
 use std::alloc::{AllocError, Global};
 use um_tree::{Expr, Exprs, Input, Inputs, Node, Note, Record, Shape, Ty, UnitNote, UnitNotes};
+use um_uses::record_units;
 
 /// So many holes.
 fn holes(alloc: Global, many: usize) -> Result<UnitNotes, AllocError>

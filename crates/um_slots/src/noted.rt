@@ -6,8 +6,8 @@ ghost use Rattle.um_units.specs.PowerMap.{nth};
 ghost use Rattle.um_units.specs.Range.{fits, RangeUnless};
 ghost use Rattle.um_tree.specs.TypeTree.{type_tree, note_tree};
 ghost use Rattle.um_elim.specs.Application.{type_fits};
-ghost use Rattle.um_slots.specs.Holes.{unit_holes as holes_of_unit, units_holes as holes_of_units};
-ghost use Rattle.um_slots.specs.Holes.{note_holes as holes_of_note};
+ghost use Rattle.um_uses.specs.Holes.{unit_holes as holes_of_unit, units_holes as holes_of_units};
+ghost use Rattle.um_uses.specs.Holes.{note_holes as holes_of_note};
 ghost use Rattle.um_slots.specs.Noted.{noted_unit as unit_noted, noted_units as units_noted, noted_type as type_noted};
 
 use crate::context::Context;

@@ -4,7 +4,7 @@ ghost use Rattle.std.specs.Prelude.{◌≡◌, ◌+◌, [], IfOk, OnOk, MatchRes
 ghost use Rattle.um_tree.specs.TypeTree.{note_tree};
 ghost use Rattle.um_tree.specs.ExprTree.{expr_tree};
 ghost use Rattle.um_tree.specs.ProgramTree.{result_tree};
-ghost use Rattle.um_slots.specs.Holes.{notes_holes as holes_of_notes, result_holes as holes_of_result};
+ghost use Rattle.um_uses.specs.Holes.{notes_holes as holes_of_notes, result_holes as holes_of_result};
 ghost use Rattle.um_slots.specs.Keys.{result_keys};
 ghost use Rattle.um_slots.specs.Slotting.{IsTable, StopsSlots, HaveSlots, with_keys, name_unit as unit_of_name};
 ghost use Rattle.um_slots.specs.Contexts.{definition_keys, holes_in};

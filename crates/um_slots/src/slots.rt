@@ -9,7 +9,7 @@ ghost use Rattle.um_units.specs.PowerMap.{atom};
 ghost use Rattle.um_tree.specs.TypeTree.{note_tree};
 ghost use Rattle.um_tree.specs.Scheme.{atom_variables};
 ghost use Rattle.um_slots.specs.declared.stop.SlotStop.TheVariants as stop;
-ghost use Rattle.um_slots.specs.Holes.{unit_holes, units_holes, note_holes, notes_holes};
+ghost use Rattle.um_uses.specs.Holes.{unit_holes, units_holes, note_holes, notes_holes};
 ghost use Rattle.um_slots.specs.Keys.{hole, name, hole_keys, name_keys, unit_keys, units_keys, note_keys, notes_keys};
 ghost use Rattle.um_slots.specs.Slotting.{IsTable, HaveSlots};
 

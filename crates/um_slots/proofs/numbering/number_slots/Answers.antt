@@ -2,7 +2,7 @@ use Rattle.std.proofs.Common.{◌≡◌, ◌+◌, ℕ, length, map, [], ◌++◌
 use Rattle.um_tree.specs.TypeTree.{note_tree}
 use Rattle.um_tree.specs.ExprTree.{expr_tree}
 use Rattle.um_tree.specs.ProgramTree.{record_tree, result_tree}
-use Rattle.um_slots.specs.Holes.{notes_holes, result_holes}
+use Rattle.um_uses.specs.Holes.{notes_holes, result_holes}
 use Rattle.um_slots.specs.Contexts.{callee_in, whole_keys}
 use Rattle.um_slots.specs.Keys.{name_keys, notes_keys, result_keys, expr_keys}
 use Rattle.um_slots.specs.Slotting.{StopsSlots, HaveSlots, with_keys}

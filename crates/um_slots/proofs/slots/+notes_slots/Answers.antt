@@ -1,6 +1,6 @@
 use Rattle.std.proofs.Common.{◌+◌, ◌-◌, ℕ, length, take, drop, map, Err, sym, subst, rules}
 use Rattle.um_tree.specs.TypeTree.{note_tree}
-use Rattle.um_slots.specs.Holes.{note_holes}
+use Rattle.um_uses.specs.Holes.{note_holes}
 use Rattle.um_slots.specs.Keys.{note_keys, notes_keys}
 use Rattle.um_slots.specs.Slotting.{HaveSlots}
 use Rattle.um_slots.proofs.Parts.{first_and_others}

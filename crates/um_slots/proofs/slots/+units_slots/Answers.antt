@@ -1,5 +1,5 @@
 use Rattle.std.proofs.Common.{◌+◌, ◌-◌, ℕ, length, take, drop, Err, sym, subst, rules}
-use Rattle.um_slots.specs.Holes.{unit_holes}
+use Rattle.um_uses.specs.Holes.{unit_holes}
 use Rattle.um_slots.specs.Keys.{unit_keys, units_keys}
 use Rattle.um_slots.specs.Slotting.{HaveSlots}
 use Rattle.um_slots.proofs.Parts.{first_and_others}

@@ -2,8 +2,8 @@
 
 ghost use Rattle.std.specs.Prelude.{◌≡◌, Bool, map, slice_get};
 ghost use Rattle.um_tree.specs.ProgramTree.{record_tree, scheme_tree};
-ghost use Rattle.um_slots.specs.Holes.{callee_holes, record_holes};
-ghost use Rattle.um_slots.specs.Callees.{callee_of};
+ghost use Rattle.um_uses.specs.Holes.{callee_holes, record_holes};
+ghost use Rattle.um_uses.specs.Callees.{callee_of};
 
 use um_tree::{Record, Scheme};
 

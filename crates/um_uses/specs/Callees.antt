@@ -3,7 +3,7 @@
 use Rattle.std.specs.Prelude.{ℕ, ◌+◌, nat_lt, ◌==◌, ◌&&◌, Bool, if◌then◌else◌, is_some, List, Option, Some, None}
 use Rattle.std.specs.Prelude.{slice_get}
 use Rattle.um_tree.specs.ProgramTree.{RecordTree, FunctionTree, SchemeTree}
-use Rattle.um_slots.specs.Holes.{Callee, known_by, itself, nobody, notes_holes, result_holes, expr_holes}
+use Rattle.um_uses.specs.Holes.{Callee, known_by, itself, nobody, notes_holes, result_holes, expr_holes}
 
 abbrev pub known_function : Option SchemeTree → Callee
 known_function (Some s) = known_by s
