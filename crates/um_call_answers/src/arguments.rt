@@ -9,7 +9,7 @@ use um_tree::{Input, Inputs};
 
 /// Why arguments are not rescaled.
 #[derive(Clone, Copy)]
-pub(crate) enum ArgumentStop {
+pub enum ArgumentStop {
     /// The argument of this index, counted from 0, has a number of which no rescaled number is in range.
     Misfit { index: u32 },
     /// No memory was left.
@@ -17,7 +17,7 @@ pub(crate) enum ArgumentStop {
 }
 
 /// The arguments in other sizes, or the first that doesn't fit.
-pub(crate) fn rescaled_arguments(
+pub fn rescaled_arguments(
     alloc: Global,
     inputs: &[Input],
     scales: &Scales,

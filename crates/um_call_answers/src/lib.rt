@@ -1,5 +1,5 @@
-//! The answers to orders that call a function: by its program's code or its tree, in two sizes of the base units, many
-//! times, of an image, and of a generated program.
+//! The answers to orders that call a function: by its program's code or its tree, many times, of an image, and of a
+//! generated program; and the arguments of a call in other sizes of the base units.
 //!
 //! ```
 //! let call = CallWords { budget: 100, name: "mean", texts: &texts };
@@ -18,10 +18,9 @@ mod exec;
 mod generated;
 pub mod laws;
 mod outcome;
-mod twin;
-mod twin_outcome;
 mod way;
 
+pub use arguments::{ArgumentStop, rescaled_arguments};
 pub use asked::read_asked;
 pub use big::answer_big;
 pub use call::answer_call;
@@ -31,5 +30,4 @@ pub use compiled::Compiled;
 pub use exec::answer_exec;
 pub use generated::big_text;
 pub use outcome::reply_to_value;
-pub use twin::answer_twin;
 pub use way::Way;

@@ -16,11 +16,9 @@ ghost use Rattle.um_call_answers.specs.Rescaling.{IsOther, CanTwin, AreFitInputs
 ghost use Rattle.um_call_answers.specs.TwinAnswer.{TwinAnswer, IsTwinAnswer, SizedAnswer, TwinLiteralsAnswer};
 ghost use Rattle.um_call_answers.specs.TwinAnswer.{InputsAnswer, TwinRunAnswer, rescaled_values};
 
-use crate::arguments::{ArgumentStop, rescaled_arguments};
-use crate::asked::read_asked;
-use crate::call_words::CallWords;
 use crate::twin_outcome::reply_to_outcomes;
 use std::alloc::{AllocError, Global};
+use um_call_answers::{ArgumentStop, CallWords, read_asked, rescaled_arguments};
 use um_front::{Answer, Checked, Text, check};
 use um_gen::generate;
 use um_reports::{reply_to_literal, reply_to_misfit, reply_to_sizes};
@@ -45,7 +43,7 @@ pub(crate) struct TwinCall<'a> {
 ///
 /// The budget is at most 10,000,000, and no text of an argument is longer than 1,048,576 bytes. Want of memory is the
 /// one error; each refusal is an answer. How programs and inputs are rescaled is Kennedy's (1997).
-#[tactic(auto, unfolding(crate::specs::TwinAnswer::TwinAnswer))]
+#[tactic(auto, unfolding(um_call_answers::specs::TwinAnswer::TwinAnswer))]
 pub fn answer_twin(alloc: Global, sizes: &str, call: &CallWords, text: Text) -> Answer
     requires call { IsShortCall (asked_call call.now) }
     requires stated { IsTrue (is_scales sizes.now) }
@@ -62,7 +60,7 @@ pub fn answer_twin(alloc: Global, sizes: &str, call: &CallWords, text: Text) -> 
 }
 
 /// The answer in a program with its schemes.
-#[tactic(auto, unfolding(crate::specs::TwinAnswer::IsTwinAnswer))]
+#[tactic(auto, unfolding(um_call_answers::specs::TwinAnswer::IsTwinAnswer))]
 fn answer_checked(alloc: Global, sizes: &str, call: &CallWords, checked: &Checked) -> Answer
     requires call { IsShortCall (asked_call call.now) }
     requires stated { IsTrue (is_scales sizes.now) }
@@ -80,7 +78,7 @@ fn answer_checked(alloc: Global, sizes: &str, call: &CallWords, checked: &Checke
 }
 
 /// The answer by the sizes of the base units.
-#[tactic(auto, unfolding(crate::specs::TwinAnswer::SizedAnswer))]
+#[tactic(auto, unfolding(um_call_answers::specs::TwinAnswer::SizedAnswer))]
 fn answer_in_sizes(alloc: Global, call: &CallWords, checked: &Checked, scales: &Scales) -> Answer
     requires call { IsShortCall (asked_call call.now) }
     requires positive { AreSizes scales.now }
@@ -111,7 +109,7 @@ fn answer_read(alloc: Global, checked: &Checked, budget: u64, scales: &Scales, c
 }
 
 /// The answer by the literals in other sizes, or the first that doesn't fit.
-#[tactic(auto, unfolding(crate::specs::TwinAnswer::TwinLiteralsAnswer))]
+#[tactic(auto, unfolding(um_call_answers::specs::TwinAnswer::TwinLiteralsAnswer))]
 fn answer_literals(alloc: Global, bytes: &[u8], both: &TwinCall) -> Answer
     requires can { CanTwin both.now.budget both.now.scales.now (program_tree both.now.shaped.now)
         (call_tree both.now.call.now) }
@@ -146,7 +144,7 @@ fn answer_rescaled(alloc: Global, both: &TwinCall, rescaled: Program) -> Answer
 }
 
 /// The answer by the arguments in other sizes, or the first that doesn't fit.
-#[tactic(auto, unfolding(crate::specs::TwinAnswer::InputsAnswer))]
+#[tactic(auto, unfolding(um_call_answers::specs::TwinAnswer::InputsAnswer))]
 fn answer_inputs(alloc: Global, both: &TwinCall, other: &Shaped) -> Answer
     requires can { CanTwin both.now.budget both.now.scales.now (program_tree both.now.shaped.now)
         (call_tree both.now.call.now) }
@@ -177,7 +175,7 @@ fn answer_both(alloc: Global, both: &TwinCall, other: &Shaped, inputs: Inputs) -
 }
 
 /// The same, and the arguments are kept.
-#[tactic(auto, unfolding(crate::specs::TwinAnswer::TwinRunAnswer))]
+#[tactic(auto, unfolding(um_call_answers::specs::TwinAnswer::TwinRunAnswer))]
 fn reply_to_runs(alloc: Global, both: &TwinCall, other: &Shaped, inputs: &Inputs) -> Answer
     requires can { CanTwin both.now.budget both.now.scales.now (program_tree both.now.shaped.now)
         (call_tree both.now.call.now) }

@@ -4,7 +4,7 @@ use Rattle.um_tree.specs.ValueTree.{input_tree}
 use Rattle.um_tree.specs.ProgramTree.{program_tree}
 use Rattle.um_run.specs.Calls.{call_tree}
 use Rattle.um_call_answers.proofs.TwinArguments.{few_arguments}
-use Rattle.um_call_answers.proofs.twin.answer_inputs.Goals as goal
+use Rattle.um_twin_answers.proofs.twin.answer_inputs.Goals as goal
 
 pub rescaled_arguments-requires : goal.rescaled_arguments-requires
 rescaled_arguments-requires c =

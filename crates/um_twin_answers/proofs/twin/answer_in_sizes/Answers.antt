@@ -1,6 +1,6 @@
 use Rattle.um_front.specs.Parts.{checked_tree}
 use Rattle.um_front.proofs.CheckedTexts.{shaped_is_formed}
-use Rattle.um_call_answers.proofs.twin.answer_in_sizes.Goals as goal
+use Rattle.um_twin_answers.proofs.twin.answer_in_sizes.Goals as goal
 
 pub answer_read-requires : goal.answer_read-requires
 answer_read-requires c =
