@@ -19,6 +19,7 @@ use crate::view::View;
 use std::alloc::{AllocError, Global};
 use um_machine::{Code, Entry};
 use um_stacks::{EMPTY, FlatShape, Stacks};
+use um_verify::goes_on;
 
 /// What is passed on, if it goes to later addresses of the function.
 fn checked(flow: Flow, at: u32, end: u32) -> Flow
@@ -28,8 +29,8 @@ fn checked(flow: Flow, at: u32, end: u32) -> Flow
     let stays = match &flow {
         Flow::Fails => true,
         Flow::Ends => true,
-        Flow::Goes(p) => at < p.to && p.to < end,
-        Flow::Forks(p, q) => at < p.to && p.to < end && at < q.to && q.to < end,
+        Flow::Goes(p) => goes_on(at, p.to, end),
+        Flow::Forks(p, q) => goes_on(at, p.to, end) && goes_on(at, q.to, end),
     };
     if stays { flow } else { Flow::Fails }
 }

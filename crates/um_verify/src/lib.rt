@@ -8,7 +8,9 @@
 #![tactic(auto)]
 
 mod image;
+mod jumps;
 mod laws;
 
 pub use image::{Head, Heads, Image, Shapes};
+pub use jumps::goes_on;
 pub use laws::{joins_of_shapes, runs_of_verified_images};
