@@ -11,8 +11,8 @@ use Rattle.um_units.specs.Variables.{VariablesBelow}
 use Rattle.um_units.proofs.Equality.{same_unit}
 use Rattle.um_units.proofs.Group.{weight-one, terms-one}
 use Rattle.um_units.proofs.Replacement.{replace-one, replace-replace, replace-closed, replace-nth_map}
-use Rattle.um_elim.specs.declared.pivot.Pivot.{Pivot}
-use Rattle.um_elim.specs.Pivot.{pivot, size, least_power, has_other, has_base}
+use Rattle.um_pivots.specs.declared.pivot.Pivot.{Pivot}
+use Rattle.um_pivots.specs.Pivot.{pivot, size, least_power, has_other, has_base}
 use Rattle.um_elim.specs.ElimStep.{substitute, step, inverted_if_negative}
 use Rattle.um_elim.specs.Elimination.{Elimination, Solved, NoSolution, Range, is_empty, ended}
 use Rattle.um_elim.specs.Instances.{Satisfies, IsRight}

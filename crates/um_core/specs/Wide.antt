@@ -2,7 +2,7 @@
 -- Source: this project's own; no public clause rests on it.
 use Rattle.std.specs.Prelude.{◌≡◌, ℕ, List, map, All, ℤ, pos, negsuc, nat_abs}
 use Rattle.um_units.specs.PowerMap.{PowerMap, replace}
-use Rattle.um_elim.specs.declared.pivot.Pivot.{Pivot}
+use Rattle.um_pivots.specs.declared.pivot.Pivot.{Pivot}
 use Rattle.um_elim.specs.ElimStep.{step, inverted_if_negative}
 use Rattle.um_wide.specs.Room.{IsNarrow}
 use Rattle.um_core.specs.declared.wide_step.Stepped.{Stepped}

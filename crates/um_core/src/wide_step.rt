@@ -3,8 +3,9 @@
 ghost use Rattle.std.specs.Prelude.{◌≡◌, ◌≤◌, ◌<ℤ◌, All, IfOk, Some, option_map, map, pos, nat_abs};
 ghost use Rattle.std.specs.List.{list_any};
 ghost use Rattle.um_units.specs.PowerMap.{atom, mul, pow};
-ghost use Rattle.um_elim.specs.Pivot.{is_base, is_other, lesser_with, pivot, pivot_of};
-ghost use Rattle.um_elim.specs.ElimStep.{inverted_if_negative, less_quotient, quotients};
+ghost use Rattle.um_pivots.specs.Pivot.{is_base, is_other, lesser_with, pivot, pivot_of};
+ghost use Rattle.um_elim.specs.ElimStep.{inverted_if_negative, quotients};
+ghost use Rattle.um_pivots.specs.Quotients.{less_quotient};
 ghost use Rattle.um_wide.specs.Room.{IsNarrow};
 ghost use Rattle.um_units.specs.Wide.{as_terms};
 ghost use Rattle.um_core.specs.Wide.{IsAfterStep, as_pivot, sign_of};

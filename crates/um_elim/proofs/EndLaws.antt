@@ -14,7 +14,7 @@ use Rattle.um_units.proofs.Integers.{no_multiple}
 use Rattle.um_units.proofs.Equality.{same_unit}
 use Rattle.um_units.proofs.Group.{weight-one, weight-atom, weight-pow, one-pow}
 use Rattle.um_units.proofs.Replacement.{weight-replace, weight_held, replace-one, replace-pow, replace-variable}
-use Rattle.um_elim.specs.Pivot.{has_other, has_base}
+use Rattle.um_pivots.specs.Pivot.{has_other, has_base}
 use Rattle.um_elim.specs.ElimStep.{substitute}
 use Rattle.um_elim.proofs.Cases.{on_test}
 use Rattle.um_elim.proofs.Shear.{weight-sum}

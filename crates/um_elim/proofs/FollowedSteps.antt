@@ -13,8 +13,8 @@ use Rattle.um_units.specs.PowerMap.{PowerMap, power_of, one, replace, nth}
 use Rattle.um_units.specs.Range.{fits}
 use Rattle.um_units.proofs.Equality.{same_unit, power_in-head}
 use Rattle.um_units.proofs.Group.{weight-one}
-use Rattle.um_elim.specs.declared.pivot.Pivot.{Pivot}
-use Rattle.um_elim.specs.Pivot.{pivot, size, least_power, has_other, has_base}
+use Rattle.um_pivots.specs.declared.pivot.Pivot.{Pivot}
+use Rattle.um_pivots.specs.Pivot.{pivot, size, least_power, has_other, has_base}
 use Rattle.um_elim.specs.ElimStep.{substitute, step, inverted_if_negative, signed, is_negative, step_of}
 use Rattle.um_elim.specs.Elimination.{Solved, NoSolution, Range, is_empty, ended, after_step, step_at, steps}
 use Rattle.um_elim.proofs.PivotLaws.{is_pivot, no_pivot, some_base, no_other}

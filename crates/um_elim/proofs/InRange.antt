@@ -14,8 +14,8 @@ use Rattle.um_units.specs.PowerMap.{PowerMap, power_of, one, atom, inv, replace}
 use Rattle.um_units.specs.Range.{fits, RangeUnless}
 use Rattle.um_units.proofs.Group.{weight-inv, power_of-atom, power_of-other_atom}
 use Rattle.um_units.proofs.InRange.{fits-power_of, fits_from_powers}
-use Rattle.um_elim.specs.declared.pivot.Pivot.{Pivot}
-use Rattle.um_elim.specs.Pivot.{pivot}
+use Rattle.um_pivots.specs.declared.pivot.Pivot.{Pivot}
+use Rattle.um_pivots.specs.Pivot.{pivot}
 use Rattle.um_elim.specs.ElimStep.{substitute, quotients}
 use Rattle.um_elim.proofs.Cases.{on_test}
 use Rattle.um_elim.proofs.Shear.{power_of-multiply, substitute-one}

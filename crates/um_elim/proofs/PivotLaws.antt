@@ -11,8 +11,8 @@ use Rattle.um_units.specs.Terms.{power_in, is_normal, is_zero, is_before_all}
 use Rattle.um_units.specs.NormalForm.{same_atom-eq, head_nonzero, head_before_all, tail_normal}
 use Rattle.um_units.specs.PowerMap.{PowerMap, power_of}
 use Rattle.um_units.proofs.Equality.{power_in-head, power_in-tail, power_in-before_all}
-use Rattle.um_elim.specs.declared.pivot.Pivot.{Pivot}
-use Rattle.um_elim.specs.Pivot.{lesser, lesser_with, pivot_of, pivot, is_base, is_other, has_other, has_base}
+use Rattle.um_pivots.specs.declared.pivot.Pivot.{Pivot}
+use Rattle.um_pivots.specs.Pivot.{lesser, lesser_with, pivot_of, pivot, is_base, is_other, has_other, has_base}
 use Rattle.um_elim.proofs.Cases.{on_test}
 
 -- ---- the head and the tail of terms in normal form

@@ -11,8 +11,8 @@ use Rattle.um_units.specs.Variables.{VariablesBelow}
 use Rattle.um_units.specs.Solutions.{Solves, IsSolvable}
 use Rattle.um_units.proofs.Replacement.{replace-nth_map}
 use Rattle.um_units.proofs.Solutions.{IsJointSolution-append, IsJointSolution-front, Solves-back, length-instance, IsSubstitutionInstance_refl}
-use Rattle.um_elim.specs.declared.pivot.Pivot.{Pivot}
-use Rattle.um_elim.specs.Pivot.{pivot, size, least_power, has_other}
+use Rattle.um_pivots.specs.declared.pivot.Pivot.{Pivot}
+use Rattle.um_pivots.specs.Pivot.{pivot, size, least_power, has_other}
 use Rattle.um_elim.specs.ElimStep.{step, inverted_if_negative}
 use Rattle.um_elim.specs.Elimination.{Elimination, Solved, NoSolution, Range, after_step, step_at, steps, eliminate}
 use Rattle.um_elim.specs.Instances.{Satisfies, IsMostGeneral, IsUnsatisfiable, IsRight, SolvesExactly}

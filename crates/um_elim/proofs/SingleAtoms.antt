@@ -10,7 +10,7 @@ use Rattle.um_units.specs.Terms.{indicator}
 use Rattle.um_units.specs.PowerMap.{PowerMap, power_of, atom, pow}
 use Rattle.um_units.proofs.Equality.{same_unit}
 use Rattle.um_units.proofs.Group.{weight-atom, power_of-pow}
-use Rattle.um_elim.specs.Pivot.{has_other, has_base}
+use Rattle.um_pivots.specs.Pivot.{has_other, has_base}
 use Rattle.um_elim.proofs.Cases.{on_test}
 use Rattle.um_elim.proofs.PivotLaws.{no_base, no_other}
 

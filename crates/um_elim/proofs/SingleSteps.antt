@@ -18,7 +18,7 @@ use Rattle.um_units.proofs.Equality.{same_unit}
 use Rattle.um_units.proofs.Group.{mul_comm, mul_assoc, mul-one, mul-inv, pow-one, inv-inv, power_of-atom, power_of-inv, power_of-mul, power_of-other_atom, terms-atom}
 use Rattle.um_units.proofs.InRange.{fits-inv}
 use Rattle.um_elim.specs.declared.elim_step.ElimStep.{ElimStep}
-use Rattle.um_elim.specs.Pivot.{is_base, is_other, has_base, has_other}
+use Rattle.um_pivots.specs.Pivot.{is_base, is_other, has_base, has_other}
 use Rattle.um_elim.specs.ElimStep.{inverted_if_negative, is_negative, multiply, quotients, signed, step, IsStepOf}
 use Rattle.um_elim.proofs.Cases.{on_test}
 use Rattle.um_elim.proofs.PivotLaws.{is_pivot}

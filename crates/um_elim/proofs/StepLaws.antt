@@ -16,8 +16,8 @@ use Rattle.um_units.proofs.Weights.{weigh-product}
 use Rattle.um_units.proofs.Equality.{power_in-before_all}
 use Rattle.um_units.proofs.Group.{weight-inv, inv-one, inv-inv}
 use Rattle.um_units.proofs.Replacement.{replace-inv}
-use Rattle.um_elim.specs.declared.pivot.Pivot.{Pivot}
-use Rattle.um_elim.specs.Pivot.{pivot, size, least_power, has_other}
+use Rattle.um_pivots.specs.declared.pivot.Pivot.{Pivot}
+use Rattle.um_pivots.specs.Pivot.{pivot, size, least_power, has_other}
 use Rattle.um_elim.specs.ElimStep.{quotients, multiply, step, inverted_if_negative, is_negative, signed}
 use Rattle.um_elim.proofs.Cases.{on_test}
 use Rattle.um_elim.proofs.Shear.{power_of-multiply, power_of-multiply_same, multiply_back}

@@ -11,7 +11,7 @@ use Rattle.um_units.specs.Range.{fits, IsStopUnless}
 use Rattle.um_elim.specs.declared.elim_step.ElimStep.{ElimStep}
 use Rattle.um_elim.specs.declared.stop.ElimStop.{ElimStop}
 use Rattle.um_elim.specs.declared.stop.ElimStop.TheVariants as stop
-use Rattle.um_elim.specs.Pivot.{pivot, least_power, size, has_other, has_base}
+use Rattle.um_pivots.specs.Pivot.{pivot, least_power, size, has_other, has_base}
 use Rattle.um_elim.specs.ElimStep.{substitute, multiply, step, inverted_if_negative, signed, IsStepOf}
 use Rattle.um_elim.specs.Elimination.{Elimination, Solved, NoSolution, Range, ended, after_step, step_at, steps, eliminate}
 use Rattle.um_elim.specs.Stops.{stop_of}

@@ -12,8 +12,8 @@ use Rattle.um_units.proofs.Variables.{IsClosed-one, IsClosed-base, VariablesBelo
 use Rattle.um_tree.specs.TypeTree.{TypeTree, bool_type, num_type, list_type, record_type}
 use Rattle.um_tree.specs.Typing.{put}
 use Rattle.um_tree.specs.Scheme.{unit_variables, type_variables}
-use Rattle.um_elim.specs.declared.pivot.Pivot.{Pivot}
-use Rattle.um_elim.specs.Pivot.{pivot, least_power, has_other, has_base}
+use Rattle.um_pivots.specs.declared.pivot.Pivot.{Pivot}
+use Rattle.um_pivots.specs.Pivot.{pivot, least_power, has_other, has_base}
 use Rattle.um_elim.specs.ElimStep.{substitute, quotients, step, inverted_if_negative}
 use Rattle.um_elim.specs.Elimination.{Elimination, Solved, NoSolution, Range, is_empty, ended, after_step, step_at, steps, eliminate}
 use Rattle.um_elim.specs.Solution.{own_variables, rigid_unit, rigid_units}

@@ -3,15 +3,12 @@
 -- other atoms y of y to the power of the negated quotient, rounded down, of y's power and x's.
 use Rattle.std.specs.Prelude.{◌≡◌, ℕ, ◌==◌, if◌then◌else◌, Bool, true, false, Option, Some, None, map, ℤ, pos, negsuc}
 use Rattle.std.specs.Prelude.{nat_abs}
-use Rattle.std.proofs.Common.{neg_ℤ}
-use Rattle.std.specs.Int.{int_div_euclid}
 use Rattle.um_units.specs.declared.Atom.TheVariants.{Var}
-use Rattle.um_units.specs.declared.Term.{Term}
-use Rattle.um_units.specs.Atoms.{same_atom}
 use Rattle.um_units.specs.PowerMap.{PowerMap, product, atom, mul, inv}
-use Rattle.um_elim.specs.declared.pivot.Pivot.{Pivot}
+use Rattle.um_pivots.specs.declared.pivot.Pivot.{Pivot}
+use Rattle.um_pivots.specs.Pivot.{pivot}
+use Rattle.um_pivots.specs.Quotients.{less_quotient}
 use Rattle.um_elim.specs.declared.elim_step.ElimStep.{ElimStep}
-use Rattle.um_elim.specs.Pivot.{pivot}
 
 -- w for variable m, and each other variable for itself
 abbrev pub substitute : ℕ → PowerMap → ℕ → PowerMap
@@ -20,13 +17,6 @@ substitute m w k = if m == k then w else atom (Var k)
 -- variable m times w for variable m
 abbrev pub multiply : ℕ → PowerMap → ℕ → PowerMap
 multiply m w = substitute m (mul (atom (Var m)) w)
-
--- y^(-floor(a/p)) for the term y^a, and power 0 for variable m itself
-abbrev pub less_quotient : ℕ → ℕ → Term → Term
-less_quotient m p t = record {
-  atom = t.atom;
-  power = if same_atom (Var m) t.atom then pos 0 else neg_ℤ (int_div_euclid t.power (pos p));
-}
 
 -- the product over the atoms y of r other than variable m of y^(-floor(a/p)), where a is the power of y in r
 abbrev pub quotients : ℕ → ℕ → PowerMap → PowerMap

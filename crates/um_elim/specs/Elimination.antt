@@ -7,8 +7,8 @@ use Rattle.std.specs.List.{list_all}
 use Rattle.um_units.specs.declared.Term.{Term}
 use Rattle.um_units.specs.PowerMap.{PowerMap, one, replace, nth}
 use Rattle.um_units.specs.Range.{fits}
-use Rattle.um_elim.specs.declared.pivot.Pivot.{Pivot}
-use Rattle.um_elim.specs.Pivot.{pivot, least_power, has_other, has_base}
+use Rattle.um_pivots.specs.declared.pivot.Pivot.{Pivot}
+use Rattle.um_pivots.specs.Pivot.{pivot, least_power, has_other, has_base}
 use Rattle.um_elim.specs.ElimStep.{substitute, step, inverted_if_negative}
 
 -- what a row makes of the units of the slots: new units, or the row has no solution, or a power is out of range

@@ -1,5 +1,4 @@
 -- The definitions, in the order in which they are to be read.
-pub mod Pivot
 pub mod ElimStep
 pub mod Elimination
 pub mod Instances

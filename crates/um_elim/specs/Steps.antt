@@ -7,7 +7,7 @@ use Rattle.um_elim.specs.declared.step.AfterStep.{AfterStep}
 use Rattle.um_elim.specs.declared.step.AfterStep.TheVariants.{Again, Ended}
 use Rattle.um_elim.specs.declared.stop.ElimStop.{ElimStop}
 use Rattle.um_elim.specs.declared.stop.ElimStop.TheVariants as stop
-use Rattle.um_elim.specs.Pivot.{pivot, least_power}
+use Rattle.um_pivots.specs.Pivot.{pivot, least_power}
 use Rattle.um_elim.specs.Elimination.{Elimination, Solved, NoSolution, Range, step_at}
 
 -- whatever comes after it, the step has this result

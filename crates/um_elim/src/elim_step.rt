@@ -6,12 +6,13 @@ ghost use Rattle.um_units.specs.declared.Atom.TheVariants.{Var};
 ghost use Rattle.um_units.specs.PowerMap.{power_of, replace};
 ghost use Rattle.um_units.specs.Range.{all_in_range, fits, in_range, RangeUnless};
 ghost use Rattle.um_elim.specs.declared.elim_step.ElimStep.{ElimStep as StepData};
-ghost use Rattle.um_elim.specs.Pivot.{pivot};
-ghost use Rattle.um_elim.specs.ElimStep.{inverted_if_negative, is_negative, signed, less_quotient, multiply, quotients};
+ghost use Rattle.um_pivots.specs.Pivot.{pivot};
+ghost use Rattle.um_elim.specs.ElimStep.{inverted_if_negative, is_negative, signed, multiply, quotients};
 ghost use Rattle.um_elim.specs.ElimStep.{step_of, IsNextStep};
+ghost use Rattle.um_pivots.specs.Quotients.{less_quotient};
 
-use crate::pivot::{Pivot, pivot_of};
 use std::alloc::{AllocError, Global};
+use um_pivots::{Pivot, negated_quotient, pivot_of};
 use um_units::{Atom, NoMemory, Term, Unit, UnitStop};
 
 /// An elimination step of a unit: the unit is inverted first or not, and a variable times `by` is put for the variable.
@@ -156,23 +157,6 @@ fn negated_quotients(alloc: Global, terms: &[Term], m: u32, p: i32) -> Result<Ve
         out.push(negated_quotient(*term, m, p))?;
     }
     Ok(out)
-}
-
-/// The negated quotient, rounded down, of the term's power and p, or 0 for variable m.
-fn negated_quotient(term: Term, m: u32, p: i32) -> Term
-    requires range { IsTrue (in_range term.power) }
-    requires p { pos 0 <ℤ p }
-    ensures { result ≡ less_quotient m (nat_abs p) term }
-{
-    let power = if term.atom == Atom::Var(m) {
-        0
-    } else {
-        -term.power.div_euclid(p)
-    };
-    Term {
-        atom: term.atom,
-        power,
-    }
 }
 
 /// The unit with variable m times w put for variable m.

@@ -18,7 +18,6 @@ mod in_order;
 mod index;
 pub mod laws;
 mod numbering;
-mod pivot;
 mod replacement;
 mod solver;
 mod step;

@@ -4,14 +4,13 @@ ghost use Rattle.std.specs.Prelude.{◌≡◌, ◌==◌, ◌<◌, ◌<ℤ◌, �
 ghost use Rattle.std.specs.Prelude.{MatchResult, IsTrue, slice_index_or};
 ghost use Rattle.std.proofs.Common.{neg_ℤ};
 ghost use Rattle.std.specs.Int.{int_div_euclid};
-ghost use Rattle.std.specs.List.{list_all, list_any};
+ghost use Rattle.std.specs.List.{list_all};
 ghost use Rattle.um_units.specs.Atoms.{same_atom};
 ghost use Rattle.um_units.specs.declared.Atom.TheVariants.{Var};
 ghost use Rattle.um_units.specs.PowerMap.{PowerMap, one, power_of, replace};
 ghost use Rattle.um_units.specs.Range.{all_in_range, fits, in_range, RangeUnless};
 ghost use Rattle.um_units.specs.declared.UnitStop.TheVariants.{NoMemory};
-ghost use Rattle.um_elim.specs.Pivot.{is_base, is_other};
-ghost use Rattle.um_elim.specs.ElimStep.{inverted_if_negative, less_quotient, multiply, quotients};
+ghost use Rattle.um_elim.specs.ElimStep.{inverted_if_negative, multiply, quotients};
 ghost use Rattle.um_elim.specs.ElimStep.{substitute, IsStepOf};
 ghost use Rattle.um_elim.specs.Steps.{IsStep, RemainderBelow, StopsStep};
 ghost use Rattle.um_elim.specs.Index.{IsIndex};
@@ -22,7 +21,8 @@ use crate::elim_step::{ElimStep, next_step, unit_after_step};
 use crate::index::{SlotList, multiply_holders};
 use crate::replacement::{Replacement, put_in_each, put_in_holders};
 use std::alloc::Global;
-use um_units::{Atom, Term, Unit, UnitStop};
+use um_pivots::{has_base_unit, has_other_variable};
+use um_units::{Atom, Unit, UnitStop};
 
 /// What is to be done after an elimination step.
 pub enum AfterStep {
@@ -132,33 +132,4 @@ fn is_single(unit: &Unit, m: u32) -> bool
     ensures { result ≡ (nat_abs (power_of unit.now (Var m)) == 1) }
 {
     unit.power_of(Atom::Var(m)).unsigned_abs() == 1
-}
-
-/// Whether a variable other than m occurs in the terms.
-fn has_other_variable(terms: &[Term], m: u32) -> bool
-    ensures { result ≡ list_any (λ t. is_other m t.atom) terms.now }
-{
-    terms.iter().any(|term| is_other_variable(term.atom, m))
-}
-
-fn is_other_variable(atom: Atom, m: u32) -> bool
-    ensures { result ≡ is_other m atom }
-{
-    match atom {
-        Atom::Base(_) => false,
-        Atom::Var(k) => k != m,
-    }
-}
-
-/// Whether a base unit occurs in the terms.
-fn has_base_unit(terms: &[Term]) -> bool
-    ensures { result ≡ list_any (λ t. is_base t.atom) terms.now }
-{
-    terms.iter().any(|term| is_base_unit(term.atom))
-}
-
-fn is_base_unit(atom: Atom) -> bool
-    ensures { result ≡ is_base atom }
-{
-    matches!(atom, Atom::Base(_))
 }

@@ -20,8 +20,8 @@ use Rattle.um_units.proofs.Group.{weight-mul, weight-pow, power_of-other_atom}
 use Rattle.um_units.proofs.Replacement.{power_of-replace, weight_held, extension-mul, extension-atom}
 use Rattle.um_units.proofs.Variables.{IsClosed-one, IsClosed-base}
 use Rattle.um_tree.proofs.Homomorphisms.{power_of-h}
-use Rattle.um_elim.specs.declared.pivot.Pivot.{Pivot}
-use Rattle.um_elim.specs.Pivot.{pivot, least_power, has_other, has_base}
+use Rattle.um_pivots.specs.declared.pivot.Pivot.{Pivot}
+use Rattle.um_pivots.specs.Pivot.{pivot, least_power, has_other, has_base}
 use Rattle.um_elim.specs.ElimStep.{substitute, quotients, step, inverted_if_negative}
 use Rattle.um_elim.specs.Elimination.{Elimination, Solved, NoSolution, Range, is_empty, ended, after_step, step_at, steps, eliminate}
 use Rattle.um_elim.specs.Solution.{rigid_unit, rigid_units}

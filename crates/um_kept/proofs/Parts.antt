@@ -19,7 +19,7 @@ use Rattle.um_units.proofs.Equality.{same_unit}
 use Rattle.um_units.proofs.Group.{power_of-one, power_of-mul, power_of-pow, pow-one, pow-pow, inv-mul, one-mul, mul-one, mul_assoc}
 use Rattle.um_units.proofs.Replacement.{weight_held}
 use Rattle.um_units.proofs.Variables.{variables_below-from_VariablesBelow}
-use Rattle.um_elim.specs.Pivot.{is_base}
+use Rattle.um_pivots.specs.Pivot.{is_base}
 use Rattle.um_elim.specs.ElimStep.{signed}
 use Rattle.um_check.specs.Existence.{at_slot, total}
 use Rattle.um_check.proofs.Extensions.{weight-extension}

@@ -9,7 +9,7 @@ use Rattle.um_units.specs.PowerMap.{PowerMap, power_of, one, mul, inv, pow, repl
 use Rattle.um_units.specs.Variables.{VariablesBelow}
 use Rattle.um_units.proofs.Replacement.{nth-map}
 use Rattle.um_elim.specs.declared.elim_step.ElimStep.{ElimStep}
-use Rattle.um_elim.specs.Pivot.{has_base}
+use Rattle.um_pivots.specs.Pivot.{has_base}
 use Rattle.um_elim.specs.ElimStep.{substitute, multiply, signed, IsStepOf}
 use Rattle.um_elim.proofs.Cases.{on_test}
 use Rattle.um_wide.specs.Room.{IsNarrow}

@@ -16,7 +16,7 @@ use Rattle.um_units.specs.PowerMap.{PowerMap, power_of, one, atom, mul, pow, rep
 use Rattle.um_units.specs.Variables.{VariablesBelow}
 use Rattle.um_units.proofs.Equality.{same_unit}
 use Rattle.um_units.proofs.Group.{power_of-one, power_of-atom, power_of-other_atom, power_of-pow, mul-one, one-pow}
-use Rattle.um_elim.specs.declared.pivot.Pivot.{Pivot}
+use Rattle.um_pivots.specs.declared.pivot.Pivot.{Pivot}
 use Rattle.um_elim.specs.declared.elim_step.ElimStep.{ElimStep}
 use Rattle.um_elim.specs.ElimStep.{substitute, multiply, quotients, inverted_if_negative, signed, is_negative, step_of, IsStepOf}
 use Rattle.um_elim.specs.Elimination.{Elimination, Solved, NoSolution, Range, eliminate}

@@ -14,7 +14,7 @@ use Rattle.um_units.proofs.Equality.{same_unit, power_in-head, power_in-before_a
 use Rattle.um_units.proofs.Group.{weight-one}
 use Rattle.um_units.specs.Terms.{indicator}
 use Rattle.um_elim.specs.declared.elim_step.ElimStep.{ElimStep}
-use Rattle.um_elim.specs.Pivot.{pivot, size, least_power, has_other, has_base}
+use Rattle.um_pivots.specs.Pivot.{pivot, size, least_power, has_other, has_base}
 use Rattle.um_elim.specs.ElimStep.{multiply, step, inverted_if_negative, signed, IsStepOf}
 use Rattle.um_elim.proofs.PivotLaws.{is_pivot, no_pivot, some_base, no_other}
 use Rattle.um_elim.proofs.StepLaws.{IsRemainder, power_of-step_pivot, power_of-step_other, least_power-falls, positive_pivot, positive_size, signed_inverted}

@@ -9,7 +9,7 @@ use Rattle.um_units.specs.PowerMap.{PowerMap, one, mul, inv, pow, power_of, repl
 use Rattle.um_units.specs.Variables.{VariablesBelow}
 use Rattle.um_wide.specs.Room.{IsNarrow}
 use Rattle.um_elim.specs.declared.elim_step.ElimStep.{ElimStep}
-use Rattle.um_elim.specs.Pivot.{has_other, is_base}
+use Rattle.um_pivots.specs.Pivot.{has_other, is_base}
 use Rattle.um_elim.specs.ElimStep.{multiply, signed}
 use Rattle.um_elim.specs.EliminationSteps.{unit_after, AreStepsOf}
 use Rattle.um_rows.specs.Generalised.{generalised_unit}

@@ -8,7 +8,7 @@ ghost use Rattle.um_units.specs.declared.Atom.TheVariants.{Var};
 ghost use Rattle.um_units.specs.declared.Term.{Term as TermData};
 ghost use Rattle.um_units.specs.PowerMap.{PowerMap, one, atom, nth, pow, replace};
 ghost use Rattle.um_units.specs.Variables.{VariablesBelow, atom_below};
-ghost use Rattle.um_elim.specs.Pivot.{is_base, is_other, pivot};
+ghost use Rattle.um_pivots.specs.Pivot.{is_base, is_other, pivot};
 ghost use Rattle.um_elim.specs.ElimStep.{multiply, signed};
 ghost use Rattle.um_wide.specs.Room.{IsNarrow, IsWithin};
 ghost use Rattle.um_check.specs.Existence.{at_slot};

@@ -5,7 +5,7 @@ use Rattle.std.proofs.lemmas.Result.{IfOk-weaker}
 use Rattle.um_units.specs.declared.Term.{Term}
 use Rattle.um_units.specs.PowerMap.{replace, nth}
 use Rattle.um_elim.specs.Elimination.{is_empty}
-use Rattle.um_elim.specs.Pivot.{pivot, pivot_of, is_other, has_other}
+use Rattle.um_pivots.specs.Pivot.{pivot, pivot_of, is_other, has_other}
 use Rattle.um_elim.proofs.MostGeneral.{IsSound}
 use Rattle.um_core.specs.Search.{outcome}
 use Rattle.um_core.specs.Wide.{as_pivot, IsAfterStep}

@@ -1,6 +1,6 @@
 use Rattle.std.specs.Prelude.{All}
 use Rattle.um_elim.specs.Elimination.{Elimination}
-use Rattle.um_elim.specs.Pivot.{least_power}
+use Rattle.um_pivots.specs.Pivot.{least_power}
 use Rattle.um_elim.proofs.MostGeneral.{IsSound}
 use Rattle.um_wide.specs.Room.{IsNarrow}
 use Rattle.um_core.proofs.wide_rows.eliminate.Given as goal

@@ -4,7 +4,7 @@ use Rattle.um_units.specs.declared.Term.{Term}
 use Rattle.um_units.specs.PowerMap.{one, replace}
 use Rattle.um_elim.specs.Elimination.{Solved, NoSolution}
 use Rattle.um_elim.specs.ElimStep.{substitute}
-use Rattle.um_elim.specs.Pivot.{is_base, has_base}
+use Rattle.um_pivots.specs.Pivot.{is_base, has_base}
 use Rattle.um_core.proofs.WideProducts.{any_wide}
 use Rattle.um_core.proofs.wide_rows.end_row.Goals as goal
 

@@ -1,6 +1,6 @@
 use Rattle.std.proofs.Common.{◌≡◌, ◌≤◌, length, drop}
 use Rattle.std.specs.Prelude.{option_map}
-use Rattle.um_elim.specs.Pivot.{pivot_of}
+use Rattle.um_pivots.specs.Pivot.{pivot_of}
 use Rattle.um_units.specs.Wide.{as_terms}
 use Rattle.um_core.specs.Wide.{as_pivot}
 use Rattle.um_core.proofs.wide_step.pivot_of.Given as goal

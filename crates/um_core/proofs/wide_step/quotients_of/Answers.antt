@@ -4,7 +4,7 @@ use Rattle.std.proofs.lemmas.Int.{to_z-of_z}
 use Rattle.um_units.specs.declared.Atom.TheVariants.{Base}
 use Rattle.um_units.specs.declared.Term.{Term}
 use Rattle.um_units.specs.PowerMap.{PowerMap, product, atom, mul, pow}
-use Rattle.um_elim.specs.ElimStep.{less_quotient}
+use Rattle.um_pivots.specs.Quotients.{less_quotient}
 use Rattle.um_units.specs.declared.wide.WideTerm.{WideTerm}
 use Rattle.um_wide.specs.Room.{IsNarrow}
 use Rattle.um_units.specs.Wide.{as_term}

@@ -1,6 +1,6 @@
 use Rattle.std.proofs.Common.{◌≡◌, map, take, nat_abs}
 use Rattle.um_units.specs.PowerMap.{product}
-use Rattle.um_elim.specs.ElimStep.{less_quotient}
+use Rattle.um_pivots.specs.Quotients.{less_quotient}
 use Rattle.um_wide.specs.Room.{IsNarrow}
 use Rattle.um_core.proofs.wide_step.quotients_of.Given as goal
 

@@ -1,5 +1,5 @@
 use Rattle.std.proofs.Common.{◌≡◌, take, map, nat_abs}
-use Rattle.um_elim.specs.ElimStep.{less_quotient}
+use Rattle.um_pivots.specs.Quotients.{less_quotient}
 use Rattle.um_elim.proofs.elim_step.negated_quotients.Given as goal
 
 abbrev pub invariant-loop-term : goal.invariant-loop-term

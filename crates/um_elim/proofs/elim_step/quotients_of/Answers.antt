@@ -5,7 +5,8 @@ use Rattle.std.specs.Prelude.{IsTrue}
 use Rattle.std.proofs.lemmas.Int.{ints}
 use Rattle.um_units.specs.PowerMap.{product}
 use Rattle.um_units.specs.Range.{fits}
-use Rattle.um_elim.specs.ElimStep.{less_quotient, quotients}
+use Rattle.um_elim.specs.ElimStep.{quotients}
+use Rattle.um_pivots.specs.Quotients.{less_quotient}
 use Rattle.um_elim.proofs.InRange.{fits-quotients}
 use Rattle.um_elim.proofs.elim_step.quotients_of.Goals as goal
 

@@ -4,7 +4,7 @@ use Rattle.um_units.proofs.Variables.{VariablesBelow-replace_nth}
 use Rattle.std.proofs.lemmas.Result.{err_from_is_err_and}
 use Rattle.um_units.specs.PowerMap.{replace, nth}
 use Rattle.um_units.specs.Range.{fits, IsStopUnless}
-use Rattle.um_elim.specs.Pivot.{least_power}
+use Rattle.um_pivots.specs.Pivot.{least_power}
 use Rattle.um_elim.specs.Elimination.{Range, steps, eliminate}
 use Rattle.um_elim.specs.Steps.{IsStep, RemainderBelow}
 use Rattle.um_elim.proofs.StepsOfCode.{first_stops, step_goes_on}

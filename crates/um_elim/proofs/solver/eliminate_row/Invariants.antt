@@ -1,7 +1,7 @@
 use Rattle.std.proofs.Common.{◌≡◌, suc, length}
 use Rattle.um_units.specs.Variables.{VariablesBelow}
 use Rattle.um_elim.specs.Index.{IsIndex}
-use Rattle.um_elim.specs.Pivot.{least_power}
+use Rattle.um_pivots.specs.Pivot.{least_power}
 use Rattle.um_elim.specs.Elimination.{steps, eliminate}
 use Rattle.um_elim.proofs.solver.eliminate_row.Given as goal
 

@@ -8,7 +8,7 @@ use Rattle.um_units.specs.declared.Atom.TheVariants.{Var}
 use Rattle.um_units.specs.declared.Term.{Term}
 use Rattle.um_units.specs.PowerMap.{power_of, replace}
 use Rattle.um_units.specs.Range.{fits, IsStopUnless}
-use Rattle.um_elim.specs.Pivot.{is_other, is_base, has_other, has_base}
+use Rattle.um_pivots.specs.Pivot.{is_other, is_base, has_other, has_base}
 use Rattle.um_elim.specs.ElimStep.{multiply, signed, IsStepOf, IsNextStep}
 use Rattle.um_elim.specs.Elimination.{Solved}
 use Rattle.um_elim.proofs.StepsOfCode.{IsSet, remainder_stops, slots_stop, steps_again, steps_unsolvable, steps_solved, least_power-lower}

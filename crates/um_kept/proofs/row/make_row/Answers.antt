@@ -6,7 +6,7 @@ use Rattle.um_units.specs.declared.Term.{Term}
 use Rattle.um_units.specs.PowerMap.{PowerMap, replace, nth}
 use Rattle.um_units.specs.Variables.{VariablesBelow}
 use Rattle.um_units.proofs.Variables.{VariablesBelow-replace_nth}
-use Rattle.um_elim.specs.Pivot.{is_other, has_other}
+use Rattle.um_pivots.specs.Pivot.{is_other, has_other}
 use Rattle.um_elim.specs.declared.elim_step.ElimStep.{ElimStep}
 use Rattle.um_elim.specs.ElimStep.{multiply, signed, IsStepOf, IsNextStep}
 use Rattle.um_elim.proofs.StepVariables.{step_low, factor_below}

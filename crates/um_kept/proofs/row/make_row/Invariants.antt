@@ -1,7 +1,7 @@
 use Rattle.std.proofs.Common.{◌≡◌, List}
 use Rattle.um_units.specs.PowerMap.{PowerMap, nth}
 use Rattle.um_units.specs.Variables.{VariablesBelow}
-use Rattle.um_elim.specs.Pivot.{least_power}
+use Rattle.um_pivots.specs.Pivot.{least_power}
 use Rattle.um_kept.specs.Kept.{Kept}
 use Rattle.um_kept.specs.Answers.{Agrees}
 use Rattle.um_kept.specs.Steps.{IsRowUnderWay}

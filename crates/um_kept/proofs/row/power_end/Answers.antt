@@ -8,7 +8,7 @@ use Rattle.um_units.specs.declared.Atom.TheVariants.{Var}
 use Rattle.um_units.specs.declared.Term.{Term}
 use Rattle.um_units.specs.PowerMap.{PowerMap, one}
 use Rattle.um_units.proofs.InRange.{fits-power_of}
-use Rattle.um_elim.specs.Pivot.{is_base, has_base}
+use Rattle.um_pivots.specs.Pivot.{is_base, has_base}
 use Rattle.um_elim.specs.ElimStep.{signed}
 use Rattle.um_check.specs.Existence.{total}
 use Rattle.um_kept.specs.Steps.{ArePartsAfter, CarriesOneOfParts, CarriesRefusal}

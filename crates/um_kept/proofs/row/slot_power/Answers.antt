@@ -8,7 +8,7 @@ use Rattle.std.proofs.lemmas.Result.{IfOk-weaker}
 use Rattle.um_units.specs.PowerMap.{PowerMap, one, pow}
 use Rattle.um_units.specs.Variables.{atom_below}
 use Rattle.um_units.proofs.Group.{one-pow}
-use Rattle.um_elim.specs.Pivot.{is_base}
+use Rattle.um_pivots.specs.Pivot.{is_base}
 use Rattle.um_wide.specs.Room.{IsWithin, IsNarrow}
 use Rattle.um_wide.proofs.Rooms.{abs_32, within-one, within-pow}
 use Rattle.um_check.specs.Existence.{at_slot}

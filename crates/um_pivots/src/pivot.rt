@@ -1,7 +1,7 @@
 //! The pivot of a row.
 
 ghost use Rattle.std.specs.Prelude.{◌≡◌};
-ghost use Rattle.um_elim.specs.Pivot.{lesser, lesser_with, pivot_of};
+ghost use Rattle.um_pivots.specs.Pivot.{lesser, lesser_with, pivot_of};
 
 use um_units::{Atom, Term};
 

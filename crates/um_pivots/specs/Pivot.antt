@@ -9,7 +9,7 @@ use Rattle.um_units.specs.declared.Atom.{Atom}
 use Rattle.um_units.specs.declared.Atom.TheVariants.{Base, Var}
 use Rattle.um_units.specs.declared.Term.{Term}
 use Rattle.um_units.specs.PowerMap.{PowerMap}
-use Rattle.um_elim.specs.declared.pivot.Pivot.{Pivot}
+use Rattle.um_pivots.specs.declared.pivot.Pivot.{Pivot}
 
 -- the one with the lesser absolute power, and of equals the second
 abbrev pub lesser : Pivot → Option Pivot → Option Pivot

@@ -1,0 +1,3 @@
+-- The definitions, in the order in which they are to be read.
+pub mod Pivot
+pub mod Quotients
