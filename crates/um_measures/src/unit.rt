@@ -1,14 +1,14 @@
 //! The units of unit texts.
 
 ghost use Rattle.std.specs.Prelude.{◌≡◌, IfOk, IfErr, map};
-ghost use Rattle.um_units.specs.Range.{RangeUnless};
+ghost use Rattle.um_units.specs.Range.{RangeUnless, fits};
 ghost use Rattle.um_tree.specs.RawTree.{unit_syntax, units_in_order};
 ghost use Rattle.um_measures.specs.Known.{short_unit};
 ghost use Rattle.um_measures.specs.UnitNames.{first_place, first_of, unknown_in, unknown_among, unit_of, product_of};
 ghost use Rattle.um_measures.specs.UnitNames.{parts_fit, products_fit, resolved_unit};
 ghost use Rattle.um_measures.specs.Stops.{IsFirst};
 ghost use Rattle.std.specs.Prelude.{Ok};
-ghost use Rattle.um_units.specs.PowerMap.{one};
+ghost use Rattle.um_units.specs.PowerMap.{one, mul, inv, pow};
 ghost use Rattle.um_measures.specs.UnitNames.{unless, or_one, variable_unit};
 ghost use Rattle.um_measures.specs.SingleUnits.{known_unit};
 
@@ -110,6 +110,45 @@ fn variable(alloc: Global, variables: &NameTable, name: &Name) -> Result<Unit, A
     }
 }
 
+/// The product of both.
+fn times(alloc: Global, left: Unit, right: Unit) -> Result<Unit, UnitStop>
+    ensures exact { IfOk result (λ unit. unit ≡ mul left right) }
+    ensures range { RangeUnless result (fits (mul left right)) }
+{
+    left.mul(alloc, &right)
+}
+
+/// The first over the second.
+fn over(alloc: Global, left: Unit, right: Unit) -> Result<Unit, UnitStop>
+    ensures exact { IfOk result (λ unit. unit ≡ mul left (inv right)) }
+    ensures range { RangeUnless result (fits (mul left (inv right))) }
+{
+    left.mul_pow(alloc, &right, -1)
+}
+
+/// The k-th power.
+fn raised(alloc: Global, base: Unit, k: i32) -> Result<Unit, UnitStop>
+    ensures exact { IfOk result (λ unit. unit ≡ pow base k) }
+    ensures range { RangeUnless result (fits (pow base k)) }
+{
+    base.pow(alloc, k)
+}
+
+/// The inverse.
+fn inverted(alloc: Global, unit: Unit) -> Result<Unit, AllocError>
+    ensures { IfOk result (λ inverse. inverse ≡ inv unit) }
+{
+    unit.inv(alloc)
+}
+
+/// The running product times the unit.
+fn grown(running: RunningProduct, unit: Unit) -> Result<RunningProduct, UnitStop>
+    ensures exact { IfOk result (λ grown. grown ≡ mul running unit) }
+    ensures range { RangeUnless result (fits (mul running unit)) }
+{
+    running.times(&unit)
+}
+
 /// The unit of a text, with a name that isn't known as 1. Range comes exactly where a part is out of range.
 #[cycle(evaluated)]
 fn evaluated(
@@ -125,22 +164,32 @@ fn evaluated(
         RawUnit::One(_) => Ok(Unit::one(alloc)),
         RawUnit::Name(_, name) => Ok(measure(alloc, measures, name)?),
         RawUnit::Var(_, name) => Ok(variable(alloc, variables, name)?),
-        RawUnit::Power(u, k) => evaluated(alloc, measures, variables, u)?.pow(alloc, *k),
+        RawUnit::Power(u, k) => raised(alloc, evaluated(alloc, measures, variables, u)?, *k),
         RawUnit::Side(units) if units.items.len() <= FEW_UNITS => {
             product_of_few(alloc, measures, variables, &units.items)
         }
         RawUnit::Side(units) => product(alloc, measures, variables, &units.items),
         RawUnit::Times(u, v) => {
             let left = evaluated(alloc, measures, variables, u)?;
-            let right = evaluated(alloc, measures, variables, v)?;
-            left.mul(alloc, &right)
+            match evaluated(alloc, measures, variables, v) {
+                Ok(right) => times(alloc, left, right),
+                Err(stop) => {
+                    drop(left);
+                    Err(stop)
+                }
+            }
         }
         RawUnit::Over(u, v) => {
             let left = evaluated(alloc, measures, variables, u)?;
-            let right = evaluated(alloc, measures, variables, v)?;
-            left.mul_pow(alloc, &right, -1)
+            match evaluated(alloc, measures, variables, v) {
+                Ok(right) => over(alloc, left, right),
+                Err(stop) => {
+                    drop(left);
+                    Err(stop)
+                }
+            }
         }
-        RawUnit::Inverse(_, u) => Ok(evaluated(alloc, measures, variables, u)?.inv(alloc)?),
+        RawUnit::Inverse(_, u) => Ok(inverted(alloc, evaluated(alloc, measures, variables, u)?)?),
         RawUnit::Bracket(_, u) => evaluated(alloc, measures, variables, u),
     }
 }
@@ -160,10 +209,17 @@ fn product(
 {
     let mut running = RunningProduct::new(alloc);
     for i in 0..units.len() {
-        let unit = evaluated(alloc, measures, variables, &units[i])?;
-        running = running.times(&unit)?;
+        match evaluated(alloc, measures, variables, &units[i]) {
+            Ok(unit) => running = grown(running, unit)?,
+            Err(stop) => {
+                drop(running);
+                return Err(stop);
+            }
+        }
     }
-    Ok(running.to_unit(alloc)?)
+    let product = running.to_unit(alloc);
+    drop(running);
+    Ok(product?)
 }
 
 /// The same, one product of two units after another.
@@ -181,8 +237,13 @@ fn product_of_few(
 {
     let mut before = Unit::one(alloc);
     for i in 0..units.len() {
-        let unit = evaluated(alloc, measures, variables, &units[i])?;
-        before = before.mul(alloc, &unit)?;
+        match evaluated(alloc, measures, variables, &units[i]) {
+            Ok(unit) => before = times(alloc, before, unit)?,
+            Err(stop) => {
+                drop(before);
+                return Err(stop);
+            }
+        }
     }
     Ok(before)
 }
