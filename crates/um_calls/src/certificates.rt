@@ -2,10 +2,9 @@
 ghost use Rattle.std.specs.Prelude.{◌≤◌, All, IfOk, length};
 
 use std::alloc::{AllocError, Global};
-use std::process::Abort;
 use std::test::Fail;
 use um_check::{No, Part, PartLists, Parts, Yes, check_no, check_yes};
-use um_rows::{Row, RowList, Rows};
+use um_equal_types::{Row, RowList, Rows};
 use um_tree::{Scheme, Ty, Types};
 use um_units::{Atom, Term, Unit, UnitStop, Units};
 
@@ -35,40 +34,14 @@ fn equal_slots(alloc: Global, times: i64) -> Result<Yes, AllocError>
     })
 }
 
-// A certificate of the scheme of a function of two equal slots, and two that aren't.
-pub fn schemes_are_certified(
-    rt: &(impl Abort + AllocGlobal),
-    rows: &Rows,
-    scheme: &Scheme,
-) -> Result<(), Fail> {
-    let alloc = rt.alloc();
-    for (times, is_valid) in [(1, true), (-1, false), (2, false)] {
-        let cert = equal_slots(alloc, times)?;
-        let found = check_yes(alloc, rows, 0, 2, scheme, &cert)?;
-        assert!(rt; found == is_valid, "{times}");
-    }
-    Ok(())
-}
-
-// The one row m/s.
-fn metres_by_seconds(alloc: Global) -> Result<Rows, UnitStop> {
-    let (metre, second) = (Atom::Base(0), Atom::Base(1));
-    let terms = [
-        Term {
-            atom: metre,
-            power: 1,
-        },
-        Term {
-            atom: second,
-            power: -1,
-        },
-    ];
+// The one row of these terms, of a function without parameters.
+fn one_row(alloc: Global, slots: u32, terms: &[Term]) -> Result<Rows, UnitStop> {
     let row = Row {
         at: 0,
-        unit: Unit::from_terms(alloc, &terms)?,
+        unit: Unit::from_terms(alloc, terms)?,
     };
     Ok(Rows {
-        slots: 0,
+        slots,
         list: RowList {
             items: vec![in alloc; row]?,
         },
@@ -79,19 +52,71 @@ fn metres_by_seconds(alloc: Global) -> Result<Rows, UnitStop> {
     })
 }
 
+// The term of an atom to a power.
+fn term(atom: Atom, power: i32) -> Term {
+    Term { atom, power }
+}
+
+// Whether the certificate that two slots are one variable shows the scheme, with the row to this power.
+fn is_certified(
+    alloc: Global,
+    rows: &Rows,
+    scheme: &Scheme,
+    times: i64,
+) -> Result<bool, AllocError> {
+    let cert = equal_slots(alloc, times)?;
+    let found = check_yes(alloc, rows, 0, 2, scheme, &cert);
+    drop(cert);
+    found
+}
+
+// A scheme of two equal slots has a certificate, and two others aren't.
+#[test]
+fn schemes_are_certified(rt: HostRuntime) -> Result<(), Fail> {
+    let alloc = rt.alloc();
+    let rows = one_row(alloc, 2, &[term(Atom::Var(0), 1), term(Atom::Var(1), -1)])?;
+    let scheme = Scheme {
+        params: Types {
+            items: Vec::new(alloc),
+        },
+        result: Ty::Bool,
+        vars: 1,
+    };
+    let found = [
+        is_certified(alloc, &rows, &scheme, 1),
+        is_certified(alloc, &rows, &scheme, -1),
+        is_certified(alloc, &rows, &scheme, 2),
+    ];
+    drop(rows);
+    drop(scheme);
+    assert!(rt; matches!(found, [Ok(true), Ok(false), Ok(false)]));
+    Ok(())
+}
+
+// Whether the certificate that m/s is no unit of 1, by this modulus and the row to this power, is valid.
+fn is_refuted(alloc: Global, rows: &Rows, modulus: i64, times: i64) -> Result<bool, AllocError> {
+    let cert = No {
+        loose: false,
+        last: 0,
+        modulus,
+        parts: row_to(alloc, times)?,
+    };
+    let found = check_no(alloc, rows, 0, 2, &cert);
+    drop(cert);
+    found
+}
+
 #[test]
 fn refusals_are_certified(rt: HostRuntime) -> Result<(), Fail> {
     let alloc = rt.alloc();
-    let rows = metres_by_seconds(alloc)?;
-    for (modulus, times, is_valid) in [(2, 1, true), (2, 2, false), (3, 2, true), (1, 1, false)] {
-        let cert = No {
-            loose: false,
-            last: 0,
-            modulus,
-            parts: row_to(alloc, times)?,
-        };
-        let found = check_no(alloc, &rows, 0, 2, &cert)?;
-        assert!(rt; found == is_valid, "{modulus} {times}");
-    }
+    let rows = one_row(alloc, 0, &[term(Atom::Base(0), 1), term(Atom::Base(1), -1)])?;
+    let found = [
+        is_refuted(alloc, &rows, 2, 1),
+        is_refuted(alloc, &rows, 2, 2),
+        is_refuted(alloc, &rows, 3, 2),
+        is_refuted(alloc, &rows, 1, 1),
+    ];
+    drop(rows);
+    assert!(rt; matches!(found, [Ok(true), Ok(false), Ok(true), Ok(false)]));
     Ok(())
 }

@@ -1,5 +1,7 @@
 //! Tests alone: the calls of the lower crates that no command makes by itself, each once with ample memory.
-//! Nothing stands on this crate.
+//!
+//! A call that a command makes is shown by a run of the program, as a case of the table of `um_tests`. Nothing stands
+//! on this crate.
 //!
 //! ```
 //! rt test um_calls
@@ -7,16 +9,8 @@
 #![tactic(auto)]
 
 #[cfg(test)]
-mod cells;
-#[cfg(test)]
 mod certificates;
 #[cfg(test)]
 mod machine;
 #[cfg(test)]
-mod programs;
-#[cfg(test)]
-mod rows;
-#[cfg(test)]
-mod texts;
-#[cfg(test)]
-mod units;
+mod trees;
