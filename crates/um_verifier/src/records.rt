@@ -1,6 +1,6 @@
 //! The rules of an image's records.
 ghost use Rattle.std.specs.Prelude.{◌≡◌, ◌≤◌, ◌<◌, ◌^◌, ℕ, All, List, true, false, length, map, take, slice_get};
-ghost use Rattle.std.specs.Prelude.{Some, IfOk, MatchOption};
+ghost use Rattle.std.specs.Prelude.{[], Some, IfOk, MatchOption};
 ghost use Rattle.std.specs.Prelude.{MatchResult};
 ghost use Rattle.std.specs.List.{list_all};
 ghost use Rattle.um_tree.specs.TypeTree.{type_tree};
@@ -91,6 +91,30 @@ fn checked_record(
     known_record(alloc, known, fields)
 }
 
+/// The records are known too, if each holds. Their names are taken.
+fn add_records(
+    alloc: Global,
+    known: &mut Known,
+    names: &mut NameTable,
+    field_names: &mut NameTable,
+    declared: &[Record],
+) -> Result<(), VerifyStop>
+    requires plain { All (λ d. IsPlainRecord (record_tree d)) declared.now }
+    requires count { length declared.now < 2 ^ 32 }
+    requires heads { known.old.heads.items ≡ [] }
+    requires takes { TakesRecords [] known.old names.old field_names.old }
+    ensures { MatchResult result (λ _. AreKnownRecords (map record_tree declared.now) known.new)
+        (λ stop. IsRecordStop (map record_tree declared.now) stop) }
+{
+    for i in 0..declared.len() {
+        match checked_record(alloc, known, names, field_names, &declared[i])? {
+            None => return Err(VerifyStop::Head { index: i as u32 }),
+            Some(r) => known.records.push(r)?,
+        }
+    }
+    Ok(())
+}
+
 /// The records, if each holds.
 pub(crate) fn known_records(alloc: Global, declared: &[Record]) -> Result<Known, VerifyStop>
     requires plain { All (λ d. IsPlainRecord (record_tree d)) declared.now }
@@ -105,11 +129,17 @@ pub(crate) fn known_records(alloc: Global, declared: &[Record]) -> Result<Known,
         records: Vec::new(alloc),
         heads: Vec::new(alloc),
     };
-    for i in 0..declared.len() {
-        match checked_record(alloc, &known, &mut names, &mut field_names, &declared[i])? {
-            None => return Err(VerifyStop::Head { index: i as u32 }),
-            Some(r) => known.records.push(r)?,
+    match add_records(alloc, &mut known, &mut names, &mut field_names, declared) {
+        Ok(()) => {
+            drop(names);
+            drop(field_names);
+            Ok(known)
+        }
+        Err(stop) => {
+            drop(names);
+            drop(field_names);
+            drop(known);
+            Err(stop)
         }
     }
-    Ok(known)
 }

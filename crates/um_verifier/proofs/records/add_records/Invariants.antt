@@ -3,7 +3,7 @@ use Rattle.um_verify.specs.Heads.{RecordHolds}
 use Rattle.um_verifier.specs.KnownHeads.{TakesRecords}
 use Rattle.um_verifier.proofs.Firsts.{HoldBefore}
 use Rattle.um_verifier.proofs.RecordHeads.{trees}
-use Rattle.um_verifier.proofs.records.known_records.Given as goal
+use Rattle.um_verifier.proofs.records.add_records.Given as goal
 
 abbrev pub invariant-loop-i : goal.invariant-loop-i
 invariant-loop-i l = record {

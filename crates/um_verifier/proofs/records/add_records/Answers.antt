@@ -8,7 +8,7 @@ use Rattle.um_verifier.specs.declared.known.KnownRecord.{KnownRecord}
 use Rattle.um_verifier.specs.declared.known.Known.{Known}
 use Rattle.um_verifier.proofs.Firsts.{hold_next, all_hold, tree_there}
 use Rattle.um_verifier.proofs.RecordHeads.{RecordFound, trees, is_first, is_found, takes_next, whole_takes}
-use Rattle.um_verifier.proofs.records.known_records.Goals as goal
+use Rattle.um_verifier.proofs.records.add_records.Goals as goal
 
 pub returns-in-None : goal.returns-in-None
 returns-in-None c =
