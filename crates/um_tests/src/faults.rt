@@ -1,9 +1,37 @@
 // Readers and writers of std that fail, and runs over a source and a sink that never do.
+use crate::run::Tally;
+use crate::table::TableStop;
+use std::alloc::{AllocError, Global};
 use std::io;
 use std::io::{ErrorKind, Read, Write};
-use std::test::Fail;
 use um_tool::{Status, Words, serve, status_of};
 use um_wire::{MemSink, ReadStop, StdSink, StdSource, read_text, write_all};
+
+/// Tries what a table of texts can't show, and prints how it came out.
+pub fn report_faults<R: Print + AllocGlobal>(rt: &R) -> Result<Tally, TableStop> {
+    let alloc = rt.alloc();
+    let mut total = Tally::none();
+    for (title, agrees) in [
+        (
+            "a failed read of std: it is told",
+            failed_read_is_told(alloc)?,
+        ),
+        (
+            "a failed read of std: the answer",
+            failed_read_is_answered(alloc)?,
+        ),
+        ("writes of std: each is flushed", writes_are_flushed()),
+        (
+            "a source and a sink that never fail",
+            quiet_runs_agree(alloc)?,
+        ),
+    ] {
+        let shown = if agrees { "agrees" } else { "DIFFERS" };
+        println!(rt; "{title}: {shown}")?;
+        total.add(Tally::of(agrees));
+    }
+    Ok(total)
+}
 
 // A reader of "abc", a byte a read, whose second read fails and takes nothing.
 #[derive(Drop)]
@@ -29,23 +57,25 @@ impl Read for Stumbling {
     }
 }
 
-#[test]
-fn a_failed_read_is_told(rt: HostRuntime) -> Result<(), Fail> {
-    let alloc = rt.alloc();
+// A read that fails is told, and the next one goes on.
+fn failed_read_is_told(alloc: Global) -> Result<bool, AllocError> {
     let mut source = StdSource::new(Stumbling { calls: 0 });
     let first = read_text(alloc, &mut source, 7);
-    assert!(rt; matches!(&first, Err(ReadStop::Failed)));
-    let rest = read_text(alloc, &mut source, 7)?;
-    assert_eq!(rt; rest.as_slice(), b"bc".as_slice());
+    let failed = matches!(&first, Err(ReadStop::Failed));
+    drop(first);
+    match read_text(alloc, &mut source, 7) {
+        Ok(rest) => Ok(failed && rest.as_slice() == b"bc".as_slice()),
+        Err(_) => Ok(false),
+    }
+}
 
+fn failed_read_is_answered(alloc: Global) -> Result<bool, AllocError> {
     let mut words = Words::new(alloc);
     words.push(alloc, "types")?;
     let mut source = StdSource::new(Stumbling { calls: 0 });
     let mut sink = MemSink::new(alloc, 100, 100, Vec::new(alloc))?;
     let status = serve(alloc, &words, &mut source, &mut sink);
-    assert!(rt; status == Status::ReadFault);
-    assert_eq!(rt; sink.bytes(), b"error 15: read\n".as_slice());
-    Ok(())
+    Ok(status == Status::ReadFault && sink.bytes() == b"error 15: read\n".as_slice())
 }
 
 // A writer that takes at most `most` bytes at a time, and whose flush may fail.
@@ -73,8 +103,7 @@ impl Write for Slow {
     }
 }
 
-#[test]
-fn each_write_is_flushed(rt: HostRuntime) -> Result<(), Fail> {
+fn writes_are_flushed() -> bool {
     for (most, is_flushable, flushed) in [(3, true, 7), (3, false, 0), (0, true, 0)] {
         let mut slow = Slow {
             most,
@@ -82,19 +111,21 @@ fn each_write_is_flushed(rt: HostRuntime) -> Result<(), Fail> {
             waiting: 0,
             flushed: 0,
         };
-        {
-            let mut sink = StdSink::new(&mut slow);
-            let got = write_all(&mut sink, b"one two");
-            assert!(rt; got.is_ok() == (flushed == 7), "{most} {is_flushable}");
+        let is_written = write_words(&mut slow);
+        if is_written != (flushed == 7) || slow.flushed != flushed {
+            return false;
         }
-        assert_eq!(rt; slow.flushed, flushed, "{most} {is_flushable}");
     }
-    Ok(())
+    true
 }
 
-#[test]
-fn quiet_runs(rt: HostRuntime) -> Result<(), Fail> {
-    let alloc = rt.alloc();
+// Whether all bytes were written.
+fn write_words(slow: &mut Slow) -> bool {
+    let mut sink = StdSink::new(slow);
+    write_all(&mut sink, b"one two").is_ok()
+}
+
+fn quiet_runs_agree(alloc: Global) -> Result<bool, AllocError> {
     let mut words = Words::new(alloc);
     words.push(alloc, "types")?;
     for (text, want) in [
@@ -108,7 +139,9 @@ fn quiet_runs(rt: HostRuntime) -> Result<(), Fail> {
         ("let", Status::Syntax),
     ] {
         let status = status_of(alloc, &words, text.as_bytes().to_vec(alloc)?);
-        assert!(rt; status == want, "{text}");
+        if status != want {
+            return Ok(false);
+        }
     }
-    Ok(())
+    Ok(true)
 }
