@@ -1,7 +1,7 @@
 //! Who asks two types to be equal.
 
 /// A typing rule that asks two types to be equal.
-#[derive(Clone, Copy, PartialEq, Eq, Debug)]
+#[derive(Clone, Copy)]
 pub enum Rule {
     /// The two sides of `+`.
     Sum,

@@ -25,7 +25,7 @@ const MOST_DIGITS: u64 = 18;
 const MOST_FUNCTIONS: u64 = 2000;
 
 /// What a run is asked to do.
-#[derive(Clone, Copy, PartialEq, Eq, Debug)]
+#[derive(Clone, Copy)]
 pub enum Order {
     /// Print the scheme of each function.
     Types,
