@@ -77,7 +77,7 @@ fn reply_annotated(alloc: Global, text: SolvedText) -> Answer
     };
     let reply = reply_listing(&source, &mut functions);
     drop(functions);
-    drop(checked);
+    checked.discard();
     reply
 }
 

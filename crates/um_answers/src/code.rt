@@ -30,7 +30,7 @@ fn reply_listing(alloc: Global, checked: Checked) -> Answer
     ensures { IfOk result (λ reply. IsListing (checked_tree checked) reply.text.items reply.status) }
 {
     let text = listing_text(alloc, &checked);
-    drop(checked);
+    checked.discard();
     Ok(Reply {
         text: text?,
         status: Status::Done,

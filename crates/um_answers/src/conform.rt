@@ -24,7 +24,7 @@ pub fn answer_conform(alloc: Global, name: &str, signature: &str, text: Text) ->
     match check(alloc, text) {
         Ok(checked) => {
             let answer = answer_checked(alloc, name, signature, &checked);
-            drop(checked);
+            checked.discard();
             answer
         }
         Err(refused) => refused,

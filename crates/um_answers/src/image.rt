@@ -24,7 +24,7 @@ pub fn answer_image(alloc: Global, text: Text) -> Answer
     match check(alloc, text) {
         Ok(checked) => {
             let reply = reply_image(alloc, &checked);
-            drop(checked);
+            checked.discard();
             reply
         }
         Err(refused) => refused,

@@ -23,7 +23,7 @@ pub fn answer_prove(alloc: Global, text: Text) -> Answer
     match shape_text(alloc, text) {
         Ok(shaped) => {
             let reply = reply_proof(alloc, &shaped.text.bytes, &shaped.shaped);
-            drop(shaped);
+            shaped.discard();
             reply
         }
         Err(refused) => refused,

@@ -25,7 +25,7 @@ pub fn answer_rescale(alloc: Global, sizes: &str, text: Text) -> Answer
     match check(alloc, text) {
         Ok(checked) => {
             let answer = answer_checked(alloc, sizes, &checked);
-            drop(checked);
+            checked.discard();
             answer
         }
         Err(refused) => refused,
@@ -68,7 +68,7 @@ fn reply_rescaled(alloc: Global, checked: &Checked, rescaled: Program) -> Answer
         reply.text.items × (reply.status ≡ Status.Done)) }
 {
     let text = rescaled_text(alloc, checked, &rescaled);
-    drop(rescaled);
+    rescaled.discard();
     Ok(Reply {
         text: text?,
         status: Status::Done,

@@ -35,7 +35,7 @@ fn answer_tokens(alloc: Global, bytes: Vec<u8>, tokens: Tokens) -> Answer
     let text = tidied(alloc, &bytes, tokens.as_slice());
     match read_tokens(alloc, bytes, tokens) {
         Ok(read) => {
-            drop(read);
+            read.discard();
             Ok(Reply {
                 text: text?,
                 status: Status::Done,

@@ -29,7 +29,7 @@ fn reply_schemes(alloc: Global, checked: Checked) -> Answer
     ensures { IfOk result (λ reply. IsSchemeList (checked_tree checked) reply.text.items reply.status) }
 {
     let text = checked_text(alloc, &checked);
-    drop(checked);
+    checked.discard();
     Ok(Reply {
         text: text?,
         status: Status::Done,

@@ -38,7 +38,7 @@ pub fn answer_big(alloc: Global, functions: u32) -> Answer
     match check(alloc, text?) {
         Ok(checked) => {
             let answer = answer_last(alloc, functions, &checked);
-            drop(checked);
+            checked.discard();
             answer
         }
         Err(refused) => refused,

@@ -33,7 +33,7 @@ pub fn answer_call(alloc: Global, way: Way, call: &CallWords, text: Text) -> Ans
     match check(alloc, text) {
         Ok(checked) => {
             let answer = answer_checked(alloc, way, call, &checked);
-            drop(checked);
+            checked.discard();
             answer
         }
         Err(refused) => refused,

@@ -59,7 +59,7 @@ fn answer_whole(alloc: Global, budget: u64, calls: &[u8], checked: Checked) -> A
         reply.text.items reply.status) }
 {
     let answer = answer_lines(alloc, budget, calls, &checked);
-    drop(checked);
+    checked.discard();
     answer
 }
 

@@ -110,12 +110,12 @@ fn reply_of_image(alloc: Global, image: &Image, function: u32, ended: &Ended) ->
     match type_of_shape(alloc, &image.heads.items[function as usize].result) {
         Ok(ty) => {
             let reply = reply_to_outcome(alloc, &program, ended, &ty);
-            drop(program);
+            program.discard();
             drop(ty);
             reply
         }
         Err(error) => {
-            drop(program);
+            program.discard();
             Err(error)
         }
     }

@@ -46,7 +46,7 @@ pub fn answer_show(alloc: Global, digits: u32, word: &str, call: &CallWords, tex
     match check(alloc, text) {
         Ok(checked) => {
             let answer = answer_checked(alloc, digits, word, call, &checked);
-            drop(checked);
+            checked.discard();
             answer
         }
         Err(refused) => refused,

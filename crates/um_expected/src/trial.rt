@@ -92,7 +92,7 @@ fn begins(answer: Result<RawProgram, ParseStop>, at: u32) -> Result<bool, AllocE
 {
     match answer {
         Ok(program) => {
-            drop(program);
+            program.discard();
             Ok(true)
         }
         Err(ParseStop::Syntax { at: place }) => Ok(place != at),
@@ -107,7 +107,7 @@ fn is_read(answer: Result<RawProgram, ParseStop>) -> Result<bool, AllocError>
 {
     match answer {
         Ok(program) => {
-            drop(program);
+            program.discard();
             Ok(true)
         }
         Err(ParseStop::Syntax { at: _ }) => Ok(false),

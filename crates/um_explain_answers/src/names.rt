@@ -140,7 +140,7 @@ fn answer_resolved(alloc: Global, bytes: &[u8], raw: &RawProgram, all: Resolved)
     match shape(alloc, program) {
         Ok(shaped) => {
             let answer = answer_shaped(alloc, bytes, raw, &shaped);
-            drop(shaped);
+            shaped.discard();
             answer
         }
         Err(stop) => explain_shapes(alloc, bytes, raw, stop),
@@ -193,7 +193,7 @@ fn push_mismatch(alloc: Global, text: &mut Vec<u8>, raw: &RawProgram) -> Result<
     match resolve_all(alloc, raw) {
         Ok(all) => {
             let added = push_shape_details(alloc, &all.program, text);
-            drop(all);
+            all.discard();
             added
         }
         Err(_) => Err(AllocError),

@@ -69,7 +69,7 @@ pub(crate) fn answer_tokens(alloc: Global, bytes: &[u8], tokens: &[Token]) -> An
     match parse(alloc, tokens, bytes.len() as u32) {
         Ok(raw) => {
             let answer = answer_tree(alloc, bytes, &raw);
-            drop(raw);
+            raw.discard();
             answer
         }
         Err(stop) => explain_tokens(alloc, bytes, tokens, stop),

@@ -10,6 +10,13 @@ pub struct ReadText {
     pub raw: RawProgram,
 }
 
+impl ReadText {
+    /// Gives its memory back. A crate that calls this has no proof of its own of how the trees are let go.
+    pub fn discard(self) {
+        drop(self);
+    }
+}
+
 /// The bytes of a text. Its program as it is written isn't kept beside them: no answer after the names asks for it.
 #[derive(Drop)]
 pub struct SourceText {
@@ -22,6 +29,13 @@ pub struct ShapedText {
     pub text: SourceText,
     pub shaped: Shaped,
     pub abbreviations: Abbreviations,
+}
+
+impl ShapedText {
+    /// Gives its memory back. A crate that calls this has no proof of its own of how the trees are let go.
+    pub fn discard(self) {
+        drop(self);
+    }
 }
 
 /// The same, with the scheme of each function. [`crate::Checked`] keeps what is known of them.

@@ -138,6 +138,11 @@ impl Tables {
             None => false,
         }
     }
+
+    /// Gives their memory back. A crate that calls this has no proof of its own of how the trees are let go.
+    pub fn discard(self) {
+        drop(self);
+    }
 }
 
 fn same_names(decls: &[FieldDecl], fields: &[RawField]) -> bool

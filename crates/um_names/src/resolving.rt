@@ -111,6 +111,13 @@ fn known_parts(tables: Tables) -> Resolved
     }
 }
 
+impl Resolved {
+    /// Gives its memory back. A crate that calls this has no proof of its own of how the trees are let go.
+    pub fn discard(self) {
+        drop(self);
+    }
+}
+
 /// The program of a raw tree, each of whose names is known where it stands, and its abbreviations.
 ///
 /// It takes time linear in the text, and refuses what [`resolve`] refuses.

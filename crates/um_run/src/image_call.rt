@@ -102,7 +102,7 @@ fn arguments_of(
         Ok(program) => {
             let abbreviations = Abbreviations::from_vec(Vec::new(alloc));
             let inputs = inputs_of(alloc, &program, &abbreviations, shapes, texts);
-            drop(program);
+            program.discard();
             inputs
         }
         Err(_) => Err(CallRefusal::NoMemory),

@@ -87,4 +87,9 @@ impl Shaped {
     {
         &self.signatures[f as usize].result
     }
+
+    /// Gives its memory back. A crate that calls this has no proof of its own of how the trees are let go.
+    pub fn discard(self) {
+        drop(self);
+    }
 }

@@ -25,7 +25,7 @@ fn with_base(alloc: Global, tables: Tables, name: &Name) -> Result<Tables, Alloc
     match add_base(alloc, &mut tables, name) {
         Ok(()) => Ok(tables),
         Err(error) => {
-            drop(tables);
+            tables.discard();
             Err(error)
         }
     }
@@ -41,7 +41,7 @@ fn with_short(alloc: Global, tables: Tables, name: &Name, unit: Unit) -> Result<
     match add_short(alloc, &mut tables, name, unit) {
         Ok(()) => Ok(tables),
         Err(error) => {
-            drop(tables);
+            tables.discard();
             Err(error)
         }
     }
@@ -58,7 +58,7 @@ fn with_record(alloc: Global, tables: Tables, decl: Record) -> Result<Tables, Al
     match add_record(alloc, &mut tables, decl) {
         Ok(()) => Ok(tables),
         Err(error) => {
-            drop(tables);
+            tables.discard();
             Err(error)
         }
     }
@@ -86,7 +86,7 @@ fn with_copy(alloc: Global, tables: Tables, short: &Abbreviation) -> Result<Tabl
     match short.unit.copy(alloc) {
         Ok(unit) => with_short(alloc, tables, &short.name, unit),
         Err(error) => {
-            drop(tables);
+            tables.discard();
             Err(error)
         }
     }
@@ -129,7 +129,7 @@ fn with_head(alloc: Global, tables: Tables, whole: &Record) -> Result<Tables, Al
     match head(alloc, whole) {
         Ok(record) => with_record(alloc, tables, record),
         Err(error) => {
-            drop(tables);
+            tables.discard();
             Err(error)
         }
     }

@@ -33,7 +33,7 @@ pub fn answer_trace(alloc: Global, call: &CallWords, text: Text) -> Answer
     match check(alloc, text) {
         Ok(checked) => {
             let answer = answer_checked(alloc, call, &checked);
-            drop(checked);
+            checked.discard();
             answer
         }
         Err(refused) => refused,

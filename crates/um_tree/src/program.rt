@@ -64,6 +64,13 @@ pub struct Program {
     pub functions: Functions,
 }
 
+impl Program {
+    /// Gives its memory back. A crate that calls this has no proof of its own of how the trees are let go.
+    pub fn discard(self) {
+        drop(self);
+    }
+}
+
 /// A scheme of a function: its types hold for all units in place of the variables below `vars`.
 #[derive(Drop)]
 pub struct Scheme {

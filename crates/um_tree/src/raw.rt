@@ -211,3 +211,10 @@ pub enum RawDecl {
 pub struct RawProgram {
     pub items: Vec<RawDecl>,
 }
+
+impl RawProgram {
+    /// Gives its memory back. A crate that calls this has no proof of its own of how the trees are let go.
+    pub fn discard(self) {
+        drop(self);
+    }
+}

@@ -52,7 +52,7 @@ pub fn answer_twin(alloc: Global, sizes: &str, call: &CallWords, text: Text) -> 
     match check(alloc, text) {
         Ok(checked) => {
             let answer = answer_checked(alloc, sizes, call, &checked);
-            drop(checked);
+            checked.discard();
             answer
         }
         Err(refused) => refused,
@@ -135,7 +135,7 @@ fn answer_rescaled(alloc: Global, both: &TwinCall, rescaled: Program) -> Answer
     match shape(alloc, rescaled) {
         Ok(other) => {
             let answer = answer_inputs(alloc, both, &other);
-            drop(other);
+            other.discard();
             answer
         }
         // It has the shapes of the program, so memory alone can be wanting.
