@@ -65,7 +65,7 @@ fn a_unit_text_is_read(rt: HostRuntime) -> Result<(), Fail> {
     let alloc = rt.alloc();
     let program = program_with_metres(alloc)?;
     let note = unit_of_text(alloc, &program);
-    drop(program);
+    program.discard();
     let note = note?;
     assert!(rt;
         matches!(&note, UnitNote::Written(unit) if unit.terms() == [METRES_SQUARED].as_slice())
