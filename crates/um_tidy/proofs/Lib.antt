@@ -7,8 +7,11 @@ pub mod Encoded
 pub mod Printed
 pub mod GapsAgain
 pub mod NearFeeds
+pub mod Masks
 pub mod NearEdges
 pub mod PlacedComments
+pub mod TabColumns
+pub mod LineMargins
 pub mod Margins
 pub mod Whites
 pub mod GapComments

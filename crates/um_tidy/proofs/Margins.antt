@@ -1,138 +1,82 @@
--- White space before a comment, a run of like bytes at a time.
-use Rattle.std.proofs.Common.{◌≡◌, refl, sym, ap, ◌∙◌, ℕ, zero, suc, ◌+◌, ◌-◌, ◌*◌, ◌/◌, ◌<◌, ◌≤◌, ◌==◌, true, false, cond, List, [], ◌∷◌, ◌++◌, length, drop, get_or, replicate, append_assoc, Result, Ok, Err, IfOk, inl, inr, arith}
+-- White space before a comment: its lines, and how it is laid out.
+use Rattle.std.proofs.Common.{◌≡◌, refl, sym, ap, ◌∙◌, subst, ℕ, zero, suc, ◌+◌, ◌-◌, ◌<◌, ◌≤◌, false, true, List, [], ◌∷◌, ◌++◌, length, drop, get_or, append_assoc, Result, Ok, Err, IfOk, inl, inr, arith}
 use Rattle.std.specs.List.{prefix_len}
 use Rattle.std.specs.Prelude.{slice_range}
 use Rattle.std.proofs.lemmas.Bool.{cases_lt}
-use Rattle.std.proofs.lemmas.List.{append-nil, drop-drop, length-drop, get_or-drop, ext_get_or}
-use Rattle.std.proofs.lemmas.Simd.{length-replicate, get_or-replicate}
+use Rattle.std.proofs.lemmas.List.{append-nil, length-drop}
+use Rattle.std.proofs.lemmas.List.Sums.{prefix_len-le-length}
 use Rattle.um_syntax.specs.Gap.{is_space}
 use Rattle.um_tidy.specs.declared.margin.Margin.{Margin}
-use Rattle.um_tidy.specs.Gaps.{in_line, width_from, spaces, blank_line}
-use Rattle.um_tidy.specs.Placed.{below_blank, front, IsMargin}
-use Rattle.um_tidy.proofs.BlankLines.{prefix_past}
+use Rattle.um_tidy.specs.Gaps.{width_from, spaces, blank_line}
+use Rattle.um_tidy.specs.Placed.{is_line_space, below_blank, front, IsMargin, IsLineMargin, IsLineStart}
 use Rattle.um_tidy.proofs.GapsAgain.{width_spaces}
-use Rattle.um_tidy.proofs.PlacedComments.{part_more, part_size, part_byte, part_none, part_one, kept_on, blank_kept, spaces_join}
+use Rattle.um_tidy.proofs.LineMargins.{other_byte, space_of_line, within_line}
+use Rattle.um_tidy.proofs.TabColumns.{plain_part}
+use Rattle.um_tidy.proofs.Whites.{spaces_on}
+use Rattle.um_tidy.proofs.PlacedComments.{no_space, part_more, part_none, part_one, kept_on, blank_kept}
 
--- ---- columns
+-- ---- its lines
 
-width_more : (w : ℕ) (xs ys : List ℕ) → width_from w (xs ++ ys) ≡ width_from (width_from w xs) ys
-width_more w [] ys = refl
-width_more w (x ∷ xs) ys = width_more (cond (x == 9) (w / 4 * 4 + 4) (w + 1)) xs ys
+-- white space goes on up to a place
+space_up_to : (gap : List ℕ) (from to : ℕ) → from ≤ to → to ≤ length gap → ((k : ℕ) → from ≤ k → k < to → is_space (get_or gap k 0) ≡ true)
+    → from + prefix_len is_space (drop from gap) ≡ to + prefix_len is_space (drop to gap)
+space_up_to gap from to order within space =
+    let place : from + (to - from) ≡ to = omega (arith, order) in
+    spaces_on gap from (to - from) (omega (arith, place, within)) (λ k low high. space k low (omega (arith, high, place)))
+    ∙ ap (λ e. e + prefix_len is_space (drop e gap)) place
 
-width_alike : (w n c : ℕ) → (c == 9) ≡ false → width_from w (replicate n c) ≡ w + n
-width_alike w zero c other = omega arith
-width_alike w (suc n) c other =
-    ap (λ b. width_from (cond b (w / 4 * 4 + 4) (w + 1)) (replicate n c)) other ∙ width_alike (w + 1) n c other ∙ omega arith
+pub line_starts : (gap : List ℕ) (from : ℕ) → from ≤ length gap → IsLineStart gap from from
+line_starts gap from within = record {
+  order = (omega arith, within);
+  space = refl;
+  feed = λ less. absurd (omega (arith, less));
+}
 
-tabs_on : (q n : ℕ) → width_from (4 * q) (replicate n 9) ≡ 4 * (q + n)
-tabs_on q zero = omega arith
-tabs_on q (suc n) =
-    let next : 4 * q / 4 * 4 + 4 ≡ 4 * (q + 1) = omega arith in
-    ap (λ w. width_from w (replicate n 9)) next ∙ tabs_on (q + 1) n ∙ omega arith
+-- the next line, after line feeds
+pub next_starts : (gap : List ℕ) (from line at next : ℕ) → IsLineStart gap from line → line ≤ at → at < next → next ≤ length gap
+    → ((k : ℕ) → line ≤ k → k < at → is_line_space (get_or gap k 0) ≡ true) → ((k : ℕ) → at ≤ k → k < next → get_or gap k 0 ≡ 10) → IsLineStart gap from next
+next_starts gap from line at next is order some within space feeds = record {
+  order = (omega (arith, is.order.0, order, some), within);
+  space =
+      is.space
+      ∙ space_up_to gap line next (omega (arith, order, some)) within
+      (λ k low high. elim (cases_lt k at) [
+        | inl sooner ↦ space_of_line (get_or gap k 0) (space k low sooner)
+        | inr later ↦ ap is_space (feeds k later high)
+      ]);
+  feed = λ _. feeds (next - 1) (omega (arith, some)) (omega (arith, some));
+}
 
-width_tabs : (w n : ℕ) → 0 < n → width_from w (replicate n 9) ≡ w / 4 * 4 + 4 * n
-width_tabs w zero some = absurd (omega (arith, some))
-width_tabs w (suc n) some =
-    let next : w / 4 * 4 + 4 ≡ 4 * (w / 4 + 1) = omega arith in
-    ap (λ k. width_from k (replicate n 9)) next ∙ tabs_on (w / 4 + 1) n ∙ omega arith
+pub margin_of : (gap : List ℕ) (from : ℕ) (m : Margin) → IsLineStart gap from m.line → IsLineMargin gap m → IsMargin gap from m
+margin_of gap from m start is = record {
+  order = (start.order.0, is.order.0);
+  within = is.order.1;
+  space = start.space ∙ space_up_to gap m.line m.end is.order.0 is.order.1 (λ k low high. space_of_line (get_or gap k 0) (is.space k low high));
+  feed = start.feed;
+  line = λ k low high. within_line (get_or gap k 0) (is.space k low high);
+  width = is.width;
+  plain = λ none. plain_part gap m.line m.end is.order.0 is.order.1 (is.plain none);
+}
 
--- ---- one run more
+-- no white space here
+pub space_ends : (gap : List ℕ) (at : ℕ) → at ≤ length gap → is_space (get_or gap at 0) ≡ false → at + prefix_len is_space (drop at gap) ≡ at
+space_ends gap at within other = elim (cases_lt at (length gap)) [
+  | inl some ↦ no_space gap at some other
+  | inr past ↦ let short = length-drop at gap in let few = prefix_len-le-length is_space (drop at gap) in omega (arith, short, few, past)
+]
 
-pub other_space : (c : ℕ) → is_space c ≡ true → (c ≡ 10 → ⊥) → (c ≡ 9 → ⊥) → (c ≡ 13 → ⊥) → c ≡ 32
-other_space c space no_feed no_tab no_return = grind arith
+module _ (gap : List ℕ) (from line : ℕ) (m : Margin) (begins : m.line ≡ line) (start : IsLineStart gap from line) (is : IsLineMargin gap m) where
+  pub margin_here : IsMargin gap from m
+  margin_here = margin_of gap from m (subst (λ k. IsLineStart gap from k) (sym begins) start) is
 
-module _ (gap : List ℕ) (from : ℕ) (m : Margin) (is : IsMargin gap from m) (n : ℕ) (some : 0 < n) (within : m.end + n ≤ length gap) where
-  abbrev here : ℕ
-  here = get_or gap m.end 0
+  pub margin_ends : is_line_space (get_or gap m.end 0) ≡ false → (get_or gap m.end 0 ≡ 10 → ⊥) → from + prefix_len is_space (drop from gap) ≡ m.end
+  margin_ends ended line_goes_on =
+      let here = margin_here in
+      here.space ∙ space_ends gap m.end is.order.1 (other_byte (get_or gap m.end 0) ended line_goes_on)
 
-  abbrev next : ℕ
-  next = m.end + n
-
-  module _ (space : is_space (get_or gap m.end 0) ≡ true) (same : (k : ℕ) → k < n → get_or gap (m.end + k) 0 ≡ get_or gap m.end 0) where
-    run_is : slice_range gap m.end (m.end + n) ≡ replicate n here
-    run_is =
-        let size = part_size gap m.end next within in
-        ext_get_or 0 (slice_range gap m.end next) (replicate n here) (size ∙ (let long : m.end + n - m.end ≡ n = omega arith in long) ∙ sym (length-replicate n here))
-        (λ k less.
-        let short : k < n = omega (arith, less, size) in
-        part_byte gap m.end next k (omega (arith, short)) ∙ same k short ∙ sym (get_or-replicate n k here 0 short))
-
-    space_more : from + prefix_len is_space (drop from gap) ≡ next + prefix_len is_space (drop next gap)
-    space_more =
-        let size = length-drop m.end gap in
-        let past = prefix_past is_space (drop m.end gap) n (omega (arith, size, within)) (λ k less. ap is_space (get_or-drop m.end gap k 0 ∙ same k less) ∙ space) in
-        let later = ap (prefix_len is_space) (drop-drop n m.end gap) in
-        omega (arith, is.space, past, later)
-
-    line_more : in_line here ≡ true → (k : ℕ) → m.line ≤ k → k < next → in_line (get_or gap k 0) ≡ true
-    line_more other k low high = elim (cases_lt k m.end) [
-      | inl sooner ↦ is.line k low sooner
-      | inr later ↦
-          let place : m.end + (k - m.end) ≡ k = omega (arith, later) in
-          ap in_line (ap (λ j. get_or gap j 0) (sym place) ∙ same (k - m.end) (omega (arith, later, high))) ∙ other
-    ]
-
-    row_more : slice_range gap m.line next ≡ slice_range gap m.line m.end ++ replicate n here
-    row_more = part_more gap m.line m.end next is.order.1 (omega arith) ∙ ap (λ ys. slice_range gap m.line m.end ++ ys) run_is
-
-    width_next : width_from 0 (slice_range gap m.line next) ≡ width_from m.width (replicate n here)
-    width_next = ap (width_from 0) row_more ∙ width_more 0 (slice_range gap m.line m.end) (replicate n here) ∙ ap (λ w. width_from w (replicate n here)) (sym is.width)
-
-    feed_last : here ≡ 10 → get_or gap (next - 1) 0 ≡ 10
-    feed_last feed =
-        let place : m.end + (n - 1) ≡ next - 1 = omega (arith, some) in
-        ap (λ k. get_or gap k 0) (sym place) ∙ same (n - 1) (omega (arith, some)) ∙ feed
-
-    pub past_feeds : here ≡ 10 → IsMargin gap from (record { line = m.end + n; end = m.end + n; width = 0; others = 0 })
-    past_feeds feed = record {
-      order = (omega (arith, is.order.0, is.order.1), omega arith);
-      within = within;
-      space = space_more;
-      feed = λ _. feed_last feed;
-      line = λ k low high. absurd (omega (arith, low, high));
-      width = ap (width_from 0) (sym (part_none gap next));
-      plain = λ _. part_none gap next ∙ (let none : 0 ≡ next - next = omega arith in ap spaces none);
-    }
-
-    pub past_tabs : here ≡ 9 → IsMargin gap from (record { line = m.line; end = m.end + n; width = m.width / 4 * 4 + 4 * n; others = m.others + n })
-    past_tabs tab = record {
-      order = (is.order.0, omega (arith, is.order.1));
-      within = within;
-      space = space_more;
-      feed = is.feed;
-      line = line_more (ap in_line tab);
-      width = sym (width_next ∙ ap (λ c. width_from m.width (replicate n c)) tab ∙ width_tabs m.width n some);
-      plain = λ h. absurd (omega (arith, h, some));
-    }
-
-    pub past_returns : here ≡ 13 → IsMargin gap from (record { line = m.line; end = m.end + n; width = m.width + n; others = m.others + n })
-    past_returns return = record {
-      order = (is.order.0, omega (arith, is.order.1));
-      within = within;
-      space = space_more;
-      feed = is.feed;
-      line = line_more (ap in_line return);
-      width = sym (width_next ∙ ap (λ c. width_from m.width (replicate n c)) return ∙ width_alike m.width n 13 refl);
-      plain = λ h. absurd (omega (arith, h, some));
-    }
-
-    pub past_blanks : here ≡ 32 → IsMargin gap from (record { line = m.line; end = m.end + n; width = m.width + n; others = m.others })
-    past_blanks blank = record {
-      order = (is.order.0, omega (arith, is.order.1));
-      within = within;
-      space = space_more;
-      feed = is.feed;
-      line = line_more (ap in_line blank);
-      width = sym (width_next ∙ ap (λ c. width_from m.width (replicate n c)) blank ∙ width_alike m.width n 32 refl);
-      plain = λ h.
-          let size : m.end - m.line + n ≡ next - m.line = omega (arith, is.order.1) in
-          row_more ∙ (λ i. is.plain h i ++ replicate n (blank i)) ∙ spaces_join (m.end - m.line) n ∙ ap spaces size;
-    }
-
--- a byte, and those after it that are like it
-pub run_same : (gap : List ℕ) (end more : ℕ) → ((k : ℕ) → k < more → get_or gap (end + 1 + k) 0 ≡ get_or gap end 0) → (k : ℕ) → k < more + 1 → get_or gap (end + k) 0 ≡ get_or gap end 0
-run_same gap end more same zero less = let place : end + zero ≡ end = omega arith in ap (λ j. get_or gap j 0) place
-run_same gap end more same (suc k) less = let place : end + suc k ≡ end + 1 + k = omega arith in ap (λ j. get_or gap j 0) place ∙ same k (omega (arith, less))
+  pub next_after : (next : ℕ) → m.end < next → next ≤ length gap → ((k : ℕ) → m.end ≤ k → k < next → get_or gap k 0 ≡ 10) → IsLineStart gap from next
+  next_after next some within feeds =
+      next_starts gap from line m.end next start (omega (arith, begins, is.order.0)) some within (λ k low high. is.space k (omega (arith, low, begins)) high) feeds
 
 -- ---- white space laid out
 

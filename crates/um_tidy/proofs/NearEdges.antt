@@ -9,6 +9,7 @@ use Rattle.std.proofs.lemmas.List.{length-map}
 use Rattle.std.proofs.lemmas.List.Sums.{prefix_len-le-length, prefix_len_passes, prefix_len_stops}
 use Rattle.std.proofs.lemmas.Simd.{length-chunk, length-zip2, length-replicate, get_or-chunk, get_or-zip2, get_or-replicate, first_set_mask_l, mask_l-mod}
 use Rattle.um_tidy.specs.Placed.{is_edge, NoEdges}
+use Rattle.um_tidy.proofs.Masks.{some_set, some_before}
 
 -- ---- going on
 
@@ -116,3 +117,11 @@ module _ (gap : List ℕ) (at : ℕ) (some : 0 < at) (room : at + 17 ≤ length 
       let size = length-map (lanes gap at) (top 7) in
       let whole : mask ≡ mask_l (map (top 7) (lanes gap at)) = joint ∙ mask_l-mod (map (top 7) (lanes gap at)) 64 (omega (arith, size, lanes_size)) in
       counted_edges n (is ∙ ap (λ m. cond (eqb m 0) 16 (trailing_zeros w64 m)) whole ∙ first_set_mask_l (top 7) (lanes gap at) 16 lanes_size (omega arith))
+
+  pub near_edge_within : (mask : ℕ) → mask ≡ mask_l (map (top 7) (lanes gap at)) % 2 ^ 64 → 0 < mask → trailing_zeros w64 mask < 16
+  near_edge_within mask joint some =
+      let size = length-map (lanes gap at) (top 7) in
+      let whole : mask ≡ mask_l (map (top 7) (lanes gap at)) = joint ∙ mask_l-mod (map (top 7) (lanes gap at)) 64 (omega (arith, size, lanes_size)) in
+      let few = some_before (top 7) (lanes gap at) (omega (arith, some, whole)) in
+      let counted = some_set mask some ∙ ap (λ m. cond (eqb m 0) 16 (trailing_zeros w64 m)) whole ∙ first_set_mask_l (top 7) (lanes gap at) 16 lanes_size (omega arith) in
+      omega (arith, few, counted, lanes_size)

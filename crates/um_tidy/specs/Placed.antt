@@ -1,6 +1,6 @@
 -- The comments below a line, by their places in a gap: what stays as it is is copied together. This mirrors the code.
-use Rattle.std.specs.Prelude.{◌≡◌, ℕ, zero, suc, ◌+◌, ◌-◌, ◌*◌, ◌<◌, ◌≤◌, ◌==◌, nat_lt}
-use Rattle.std.specs.Prelude.{Bool, true, false, not, ◌&&◌, ◌||◌, List, ◌++◌, length, map, take, drop, get_or}
+use Rattle.std.specs.Prelude.{◌≡◌, ℕ, zero, suc, ◌+◌, ◌-◌, ◌*◌, ◌/◌, ◌<◌, ◌≤◌, ◌==◌, nat_lt}
+use Rattle.std.specs.Prelude.{Bool, true, false, not, cond, ◌&&◌, ◌||◌, List, [], ◌∷◌, ◌++◌, length, map, take, drop, get_or}
 use Rattle.std.specs.Prelude.{slice_range}
 use Rattle.std.specs.List.{prefix_len}
 use Rattle.std.specs.Simd.Lanes.{mask_l}
@@ -15,6 +15,20 @@ use Rattle.um_tidy.specs.Gaps.{in_line, lines, width_from, spaces, blank_line, e
 -- a bit for each of the next 16 that is no white space
 abbrev pub others_mask : List ℕ → ℕ → ℕ
 others_mask bytes at = mask_l (map (λ c. not (is_space c)) (take 16 (drop at bytes)))
+
+-- white space within a line
+abbrev pub is_line_space : ℕ → Bool
+is_line_space c = c == 32 || (c == 9 || c == 13)
+
+-- a bit for each of the next 16 that is a tab, that is a tab or CR, and that is no white space within a line
+abbrev pub tabs_mask : List ℕ → ℕ → ℕ
+tabs_mask bytes at = mask_l (map (λ c. c == 9) (take 16 (drop at bytes)))
+
+abbrev pub marks_mask : List ℕ → ℕ → ℕ
+marks_mask bytes at = mask_l (map (λ c. c == 9 || c == 13) (take 16 (drop at bytes)))
+
+abbrev pub ends_mask : List ℕ → ℕ → ℕ
+ends_mask bytes at = mask_l (map (λ c. not (is_line_space c)) (take 16 (drop at bytes)))
 
 -- A line feed stands here, beside a byte that may be white space.
 abbrev pub is_edge : List ℕ → ℕ → Bool
@@ -39,6 +53,13 @@ front gap at line start = blank_line (below_blank (line - at)) ++ spaces (width_
 abbrev pub lines_from : (Above → List ℕ → List ℕ) → List ℕ → ℕ → List ℕ
 lines_from last gap at = each_line last above.Line (lines (drop at gap))
 
+-- ---- columns
+
+-- the column after bytes of a line, by whether each is a tab
+abbrev pub columns_after : ℕ → List Bool → ℕ
+columns_after n [] = n
+columns_after n (tab ∷ tabs) = columns_after (cond tab (n / 4 * 4 + 4) (n + 1)) tabs
+
 -- ---- margins
 
 -- white space from one place on, up to where it ends: what is said of it holds
@@ -51,6 +72,15 @@ pub record IsMargin (gap : List ℕ) (from : ℕ) (m : Margin) : Type 0 where
   pub width : m.width ≡ width_from 0 (slice_range gap m.line m.end)
   pub plain : m.others ≡ 0 → slice_range gap m.line m.end ≡ spaces (m.end - m.line)
 
--- its columns can be counted, and its bytes
-abbrev pub IsNarrow : List ℕ → Margin → Type 0
-IsNarrow gap m = (m.width ≤ 4 * m.end) × (m.others ≤ m.end) × (m.end ≤ length gap)
+-- the same of the white space of its last line alone
+pub record IsLineMargin (gap : List ℕ) (m : Margin) : Type 0 where
+  pub order : (m.line ≤ m.end) × (m.end ≤ length gap)
+  pub space : (k : ℕ) → m.line ≤ k → k < m.end → is_line_space (get_or gap k 0) ≡ true
+  pub width : m.width ≡ width_from 0 (slice_range gap m.line m.end)
+  pub plain : m.others ≡ 0 → (k : ℕ) → m.line ≤ k → k < m.end → get_or gap k 0 ≡ 32
+
+-- white space from one place on, up to where a line begins
+pub record IsLineStart (gap : List ℕ) (from line : ℕ) : Type 0 where
+  pub order : (from ≤ line) × (line ≤ length gap)
+  pub space : from + prefix_len is_space (drop from gap) ≡ line + prefix_len is_space (drop line gap)
+  pub feed : from < line → get_or gap (line - 1) 0 ≡ 10

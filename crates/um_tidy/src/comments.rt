@@ -8,6 +8,7 @@ ghost use Rattle.um_tidy.specs.declared.gap.Above.TheVariants.{Line};
 ghost use Rattle.um_tidy.specs.Gaps.{in_line, lines, each_line};
 ghost use Rattle.um_tidy.specs.Placed.{below_blank, front, lines_from, IsMargin};
 
+use crate::columns::push_columns;
 use crate::edges::first_edge;
 use crate::gap::{Above, push_blank_line};
 use crate::margin::{Margin, margin_at};
@@ -154,7 +155,7 @@ fn push_front(text: &mut Draft, at: usize, margin: Margin) -> Result<usize, Allo
         return Ok(margin.line - 1);
     }
     push_blank_line(text, below_blank(blank))?;
-    text.push_spaces(margin.width)?;
+    push_columns(text, margin.width)?;
     Ok(margin.end)
 }
 

@@ -75,3 +75,12 @@ pub(crate) fn first_set(mask: u64) -> usize
     }
     mask.trailing_zeros() as usize
 }
+
+/// The place of the lowest bit that is set.
+#[inline(always)]
+pub(crate) fn lowest(mask: u64) -> usize
+    requires { 0 < mask }
+    ensures { result ≡ trailing_zeros w64 mask }
+{
+    mask.trailing_zeros() as usize
+}

@@ -8,6 +8,7 @@ ghost use Rattle.um_tidy.specs.Gaps.{in_line, lines, comment, width_from, blank_
 ghost use Rattle.um_tidy.specs.Gaps.{past_blank, own_line, below, each_line, indentation, before_token, comment_after};
 ghost use Rattle.um_tidy.specs.Gaps.{line_end, first_gap, inner_gap, last_gap, only_gap};
 
+use crate::columns::{push_columns, width};
 use crate::comments::push_comments;
 use crate::feed::line_feed;
 use crate::white::{space_end, trimmed_len};
@@ -168,7 +169,7 @@ fn push_own_line(
         return Ok(past_blank(above));
     }
     push_blank_line(text, above)?;
-    text.push_spaces(width(&line[..margin]))?;
+    push_columns(text, width(&line[..margin]))?;
     text.push_all(comment)?;
     text.push_byte(b'\n')?;
     Ok(Above::Line)
@@ -227,7 +228,7 @@ fn push_indentation(
     if begins {
         return Ok(());
     }
-    text.push_spaces(width(&line[..margin]).max(2))
+    push_columns(text, width(&line[..margin]).max(2))
 }
 
 fn past_blank(above: Above) -> Above
@@ -266,20 +267,4 @@ fn margin_len(line: &[u8]) -> usize
     ensures len { result ≡ prefix_len is_space line.now }
 {
     space_end(line, 0)
-}
-
-/// The columns that white space takes.
-fn width(space: &[u8]) -> usize
-    requires { length space.now ≤ 1048576 }
-    ensures { result ≡ width_from 0 space.now }
-{
-    let mut width = 0;
-    for i in 0..space.len() {
-        width = if space[i] == b'\t' {
-            width / 4 * 4 + 4
-        } else {
-            width + 1
-        };
-    }
-    width
 }

@@ -5,6 +5,7 @@
 //! ```
 #![tactic(auto)]
 
+mod columns;
 mod comments;
 mod edges;
 mod feed;

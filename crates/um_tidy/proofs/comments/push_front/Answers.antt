@@ -8,5 +8,5 @@ returns-then-blank-gt0-clause-added c = λ gap is. front_plain c.args.text.now.i
 
 pub returns-clause-added : goal.returns-clause-added
 returns-clause-added c = λ gap is.
-    front_pushed c.args.text.now.items c.push_blank_line.new.text.items c.push_spaces.new.self.items gap c.args.at c.args.margin
-    (c.in_ok-push_blank_line.ensures ∙ ap (λ a. c.args.text.now.items ++ blank_line a) c.below_blank.ensures) c.in_ok-push_spaces.ensures is
+    front_pushed c.args.text.now.items c.push_blank_line.new.text.items c.push_columns.new.text.items gap c.args.at c.args.margin
+    (c.in_ok-push_blank_line.ensures ∙ ap (λ a. c.args.text.now.items ++ blank_line a) c.below_blank.ensures) c.in_ok-push_columns.ensures is
