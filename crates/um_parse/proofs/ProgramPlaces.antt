@@ -118,7 +118,7 @@ decls_spaced : (from end : ℕ) (ds : List DeclSyntax) (tokens : List Token) →
 decls_spaced from end [] tokens s fits r = (subst (λ ts. Rises from ts end) s r, tt)
 decls_spaced from end (d ∷ ds) tokens s fits r =
     let one = decl_spaced from end d ds tokens s.0 s.1 fits.0 r (λ next q. (decls_spaced next end ds s.0 s.2 fits.1 q).0) in
-    (one.0, one.1, (decls_spaced from end ds s.0 s.2 fits.1 one.2).1)
+    (one.0, (one.1, (decls_spaced from end ds s.0 s.2 fits.1 one.2).1))
 
 pub program_spaced : (end : ℕ) (ds : List DeclSyntax) (tokens : List Token) → IsProgram tokens ds → Rises 0 tokens end → Spaced ds end
 program_spaced end ds tokens p r = (decls_spaced 0 end ds tokens p.spelled p.fits r).1

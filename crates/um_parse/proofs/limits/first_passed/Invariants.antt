@@ -11,3 +11,6 @@ invariant-loop-decl l =
     × (program_nodes (map decl_syntax l.later) < 2 ^ 32)
     × (l.spaced ≡ true → Spaced (map decl_syntax l.later) l.end)
     × (l.before + length l.later ≤ length l.decls)
+
+abbrev pub decreases-loop-decl : goal.decreases-loop-decl
+decreases-loop-decl l = length l.later

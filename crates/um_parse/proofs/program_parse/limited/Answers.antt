@@ -1,12 +1,16 @@
-use Rattle.std.proofs.Common.{List, map, refl, ap, subst, arith}
+use Rattle.std.proofs.Common.{List, map, refl, sym, ap, subst, arith}
 use Rattle.um_tree.specs.declared.raw.RawDecl.{RawDecl}
 use Rattle.um_tree.specs.RawTree.{decl_syntax}
 use Rattle.um_parse.specs.ProgramNodes.{program_nodes}
 use Rattle.um_parse.specs.ProgramLimits.{WithinLimits, PassesAt}
+use Rattle.um_parse.specs.Spaced.{Spaced}
 use Rattle.um_parse.proofs.program_parse.limited.Goals as goal
 
 pub first_passed-requires : goal.first_passed-requires
-first_passed-requires c = record { few = omega (arith, c.requires.few, ap (λ (w : List RawDecl). program_nodes (map decl_syntax w)) c.deref.ensures.value) }
+first_passed-requires c = record {
+  few = omega (arith, c.requires.few, ap (λ (w : List RawDecl). program_nodes (map decl_syntax w)) c.deref.ensures.value);
+  spaced = λ s. subst (λ (w : List RawDecl). Spaced (map decl_syntax w) c.args.end) (sym c.deref.ensures.value) (c.requires.spaced s);
+}
 
 pub returns-in-Some : goal.returns-in-Some
 returns-in-Some c =

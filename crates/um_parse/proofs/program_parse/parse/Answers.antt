@@ -7,7 +7,7 @@ use Rattle.um_parse.proofs.program_parse.parse.Goals as goal
 pub limited-requires : goal.limited-requires
 limited-requires c =
     let few = few_nodes c.args.tokens.now (program_syntax c.in-Ok.program) c.in-Ok.ensures.0 in
-    record { few = omega (arith, few, c.requires.text, c.ranges.end) }
+    record { few = omega (arith, few, c.requires.text, c.ranges.end); spaced = λ s. absurd cc }
 
 pub returns-in-Ok : goal.returns-in-Ok
 returns-in-Ok c =

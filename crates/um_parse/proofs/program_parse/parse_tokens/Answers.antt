@@ -6,10 +6,11 @@ use Rattle.um_parse.proofs.program_parse.parse_tokens.Goals as goal
 
 pub limited-requires : goal.limited-requires
 limited-requires c =
-    let few = few_nodes c.args.tokens (program_syntax c.in_ok-read_tokens.program) c.read_tokens.ensures.0 in
-    record { few = omega (arith, few, c.requires.text, c.ranges.end) }
+    let e = c.in_ok-program.ensures in
+    let few = few_nodes c.args.tokens (program_syntax c.in_ok-program.field-0.program) e.0 in
+    record { few = omega (arith, few, c.requires.text, c.ranges.end); spaced = e.2 }
 
 pub returns : goal.returns
 returns c =
-    let e = c.read_tokens.ensures in
-    record { parsed = limited_parsed c.args.tokens c.args.end (program_syntax c.in_ok-read_tokens.program) c.limited.result e.0 e.1 c.limited.ensures }
+    let e = c.in_ok-program.ensures in
+    record { parsed = limited_parsed c.args.tokens c.args.end (program_syntax c.in_ok-program.field-0.program) c.limited.result e.0 e.1 c.limited.ensures }

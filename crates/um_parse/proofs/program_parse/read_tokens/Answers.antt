@@ -54,7 +54,7 @@ pub returns-in-Ok-Some : goal.returns-in-Ok-Some
 returns-in-Ok-Some c =
     let tokens = c.args.tokens in
     let found = rw c.in-Ok-Some.field-0-is at c.in-Ok-Some.ensures.found in
-    let end = YieldsList-end (YieldsList-from_vec {s = c.into_iter-token-iterator.result} tokens (search rules) (search rules)) c.loop-token.yielded _ c.loop-token.yielded_by _ _ c.in-None.is c.next.ensures.steps in
+    let end = YieldsList-end (YieldsList-from_vec {s = c.into_iter-token-iterator.result} tokens (search rules) (search rules)) c.loop-token.yielded c.loop-token.token-iterator c.loop-token.yielded_by c.next.result c.next.new.self c.in-None.is c.next.ensures.steps in
     let all = sym (map-id c.loop-token.yielded) ∙ end.0 in
     all_read tokens c.args.end (length c.loop-token.yielded) (program_state c.loop-token.reader) (record { program = c.in-Ok-Some.program; spaced = c.rise_to-spaced.result }) end.1 c.loop-token.invariant.0 found
     (λ spaced. let k = c.rise_to-spaced.ensures spaced in subst (λ (ts : List Token). Rises 0 ts c.args.end) all (rises_to 0 c.loop-token.places.next c.args.end c.loop-token.yielded k.1 (c.loop-token.invariant.1 k.0)))
@@ -63,5 +63,5 @@ pub returns-in-Ok-None : goal.returns-in-Ok-None
 returns-in-Ok-None c =
     let tokens = c.args.tokens in
     let found = rw c.in-Ok-None.field-0-is at c.in-Ok-None.ensures.found in
-    let end = YieldsList-end (YieldsList-from_vec {s = c.into_iter-token-iterator.result} tokens (search rules) (search rules)) c.loop-token.yielded _ c.loop-token.yielded_by _ _ c.in-None.is c.next.ensures.steps in
+    let end = YieldsList-end (YieldsList-from_vec {s = c.into_iter-token-iterator.result} tokens (search rules) (search rules)) c.loop-token.yielded c.loop-token.token-iterator c.loop-token.yielded_by c.next.result c.next.new.self c.in-None.is c.next.ensures.steps in
     none_read tokens c.args.end (length c.loop-token.yielded) (program_state c.loop-token.reader) end.1 c.loop-token.invariant.0 found
