@@ -28,11 +28,11 @@ loop-decl-preserved c =
           c.in_ok-declare_last.ensures.exact);
     }
 
-pub returns-in-None-clause-exact : goal.returns-in-None-clause-exact
-returns-in-None-clause-exact c =
+pub returns-clause-exact : goal.returns-clause-exact
+returns-clause-exact c =
     let ds = c.args.raw.items in
     let seen = c.loop-decl.yielded in
-    let end = YieldsList-end (YieldsList-from_vec {s = c.into_iter-decl-iterator.result} ds (search rules) (search rules)) seen _ c.loop-decl.yielded_by _ _ c.in-None.is c.next.ensures.steps in
+    let end = YieldsList-end (YieldsList-from_vec {s = c.into_iter-decl-iterator.result} ds (search rules) (search rules)) seen c.loop-decl.decl-iterator c.loop-decl.yielded_by c.next.result c.next.new.self c.in-None.is c.next.ensures.steps in
     c.loop-decl.invariant.done ∙ ap (resolved_decls (known_of c.loop-decl.tables)) (map_from-end decl_syntax ds (length seen) (omega (arith, end.1)))
 
 pub returns-in_err-declare_last-clause-faults : goal.returns-in_err-declare_last-clause-faults

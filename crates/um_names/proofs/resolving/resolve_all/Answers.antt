@@ -10,16 +10,16 @@ pub returns-clause-exact : goal.returns-clause-exact
 returns-clause-exact c =
     let known = known_of c.in_ok-tables.tables in
     let whole = subst (λ (raw : List RawDecl). resolution (map decl_syntax raw) ≡ Ok known) c.deref.ensures.value c.in_ok-tables.ensures.exact in
-    program_found _ known c.known_parts.result.program whole c.known_parts.ensures.program
+    program_found (map decl_syntax c.args.raw.now.items.items) known c.known_parts.result.program whole c.known_parts.ensures.program
 
 pub returns-clause-formed : goal.returns-clause-formed
 returns-clause-formed c =
     let known = known_of c.in_ok-tables.tables in
     let whole = subst (λ (raw : List RawDecl). resolution (map decl_syntax raw) ≡ Ok known) c.deref.ensures.value c.in_ok-tables.ensures.exact in
-    program_formed _ known c.known_parts.result.program whole c.known_parts.ensures.program
+    program_formed (map decl_syntax c.args.raw.now.items.items) known c.known_parts.result.program whole c.known_parts.ensures.program
 
 pub returns-clause-abbreviated : goal.returns-clause-abbreviated
 returns-clause-abbreviated c =
     let known = known_of c.in_ok-tables.tables in
     let whole = subst (λ (raw : List RawDecl). resolution (map decl_syntax raw) ≡ Ok known) c.deref.ensures.value c.in_ok-tables.ensures.exact in
-    abbreviations_found _ known c.known_parts.result.abbreviations whole c.known_parts.ensures.abbreviations
+    abbreviations_found (map decl_syntax c.args.raw.now.items.items) known c.known_parts.result.abbreviations whole c.known_parts.ensures.abbreviations
