@@ -9,9 +9,9 @@ use Rattle.um_show.specs.Layout.{line_pieces}
 use Rattle.um_show.proofs.Joined.{separated}
 use Rattle.um_show.proofs.decl.push_each.Goals as goal
 
-pub returns-in-None : goal.returns-in-None
-returns-in-None c =
+pub returns : goal.returns
+returns c =
     let xs = c.args.decls.items in
-    let end = YieldsList-end (YieldsList-from_vec {s = c.into_iter-decl-iterator.result} xs (search rules) (search rules)) c.loop-decl.yielded _ c.loop-decl.yielded_by _ _ c.in-None.is c.next.ensures.steps in
+    let end = YieldsList-end (YieldsList-from_vec {s = c.into_iter-decl-iterator.result} xs (search rules) (search rules)) c.loop-decl.yielded c.loop-decl.decl-iterator c.loop-decl.yielded_by c.next.result c.next.new.self c.in-None.is c.next.ensures.steps in
     let all = sym (map-id c.loop-decl.yielded) ∙ end.0 in
     c.loop-decl.invariant ∙ ap (λ s. c.args.text.now.items ++ s) (ap (flat_map (λ x. text_of (line_pieces (decl_syntax x)))) all ∙ sym (separated line_pieces decl_syntax [] xs))
