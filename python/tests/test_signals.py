@@ -76,10 +76,18 @@ def test_ctrl_z_stops_both(start, script, tmp_path):
     assert um.wait(timeout=WAIT) == 0
 
 
-def test_a_signal_ends_what_other_threads_ask(start, script, tmp_path):
+# How long a thread that starts a program is kept from going on: in the second it has only begun when the signal comes.
+@pytest.mark.parametrize("seconds", [0, 1])
+def test_a_signal_ends_what_other_threads_ask(start, script, tmp_path, seconds):
     stub = script(f"echo $$ > {tmp_path}/pid; exec sleep 1000")
-    text = ("import sys, threading, time\nfrom pathlib import Path\n"
+    text = ("import subprocess, sys, threading, time\nfrom pathlib import Path\n"
             f"sys.path.insert(0, '{HOME}/python')\nfrom umc import cli, signals\nfrom umc.program import Program\n"
+            "begin = subprocess.Popen\n"
+            "def begin_and_wait(*args, **words):\n"
+            "    process = begin(*args, **words)\n"
+            f"    time.sleep({seconds})\n"
+            "    return process\n"
+            "subprocess.Popen = begin_and_wait\n"
             "def ask(args):\n"
             f"    ask = Program(Path('{stub}')).ask\n"
             "    threading.Thread(target=ask, args=(['types'], b''), daemon=True).start()\n"

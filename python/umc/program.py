@@ -17,7 +17,7 @@ from typing import IO
 from umc.errors import Crashed, Unavailable, WordsTooLong
 from umc.limits import NONE, Limits, held_by
 from umc.said import Said
-from umc.signals import allowed, held, running
+from umc.signals import allowed, held, running, starting
 
 HOME = Path(__file__).resolve().parents[2]
 PIECE = 1 << 20
@@ -56,7 +56,6 @@ class Program:
         with held():
             process = self._start(words)
             assert process.stderr
-            running.add(process.pid)
             said = Said(process.stderr)
             try:
                 with allowed():
@@ -73,8 +72,11 @@ class Program:
     def _start(self, words: Sequence[str]) -> subprocess.Popen[bytes]:
         """Starts the program in a process group of its own, which can be ended as a whole."""
         try:
-            return subprocess.Popen([str(self.path), *words], stdin=subprocess.PIPE, stdout=subprocess.PIPE,
-                                    stderr=subprocess.PIPE, bufsize=0, process_group=0)
+            with starting:
+                process = subprocess.Popen([str(self.path), *words], stdin=subprocess.PIPE, stdout=subprocess.PIPE,
+                                           stderr=subprocess.PIPE, bufsize=0, process_group=0)
+                running.add(process.pid)
+            return process
         except OSError as fault:
             if fault.errno == errno.E2BIG:
                 raise WordsTooLong("the words are longer than the system takes") from fault

@@ -18,6 +18,8 @@ ENDING = (signal.SIGINT, signal.SIGTERM, signal.SIGHUP, signal.SIGQUIT)
 
 # The process groups of the programs that run.
 running: set[int] = set()
+# Held from a program's start until it is among those that run, so that no signal to all of them leaves one out.
+starting = threading.RLock()
 _pending: list[int] = []
 _holding = False
 # The signal that ends this process, once it came.
@@ -68,9 +70,10 @@ def _pause() -> None:
 
 
 def _send(number: int) -> None:
-    for group in list(running):
-        with suppress(ProcessLookupError):
-            os.killpg(group, number)
+    with starting:
+        for group in list(running):
+            with suppress(ProcessLookupError):
+                os.killpg(group, number)
 
 
 @contextmanager
@@ -117,6 +120,7 @@ def _set(holding: bool) -> Iterator[None]:
 
 def end_by(number: int) -> None:
     """Ends this process by a signal, so that whoever started it sees the signal, and what other threads still ask."""
+    starting.acquire()   # never released: no other thread starts a program any more
     _send(signal.SIGTERM)
     signal.signal(number, signal.SIG_DFL)
     os.kill(os.getpid(), number)
