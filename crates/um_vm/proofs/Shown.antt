@@ -13,11 +13,11 @@ use Rattle.um_vm.specs.declared.phase.End.{End}
 use Rattle.um_vm.specs.declared.phase.End.TheVariants as end
 use Rattle.um_vm.specs.declared.phase.Phase.{Phase}
 use Rattle.um_vm.specs.declared.phase.Phase.TheVariants as phase
-use Rattle.um_vm.specs.declared.run.Run.{Run}
+use Rattle.um_steps.specs.declared.run.Run.{Run}
 use Rattle.um_vm.specs.declared.machine.Machine.{Machine}
-use Rattle.um_vm.specs.Going.{state_of}
+use Rattle.um_steps.specs.Going.{state_of}
 use Rattle.um_vm.specs.Ends.{IsEnd}
-use Rattle.um_vm.specs.Stepping.{first_state, IsBegun, Makes}
+use Rattle.um_steps.specs.Stepping.{first_state, IsBegun, Makes}
 use Rattle.um_vm.specs.Phases.{first_phase, end_holds, phase_holds}
 use Rattle.um_vm.specs.Laws.{MachinesShowOneStep}
 use Rattle.um_vm.specs.Showing.{ShowsIn, Shows}

@@ -15,17 +15,9 @@
 mod counting;
 mod laws;
 mod machine;
-mod operations;
 mod phase;
-mod progress;
-mod run;
 mod runner;
-mod several;
-mod stack;
 mod step;
-mod stop;
-mod stride;
-mod words;
 
 pub use counting::{CountedOutcome, run_code};
 pub use laws::{counted_calls, shown_steps};

@@ -3,13 +3,13 @@ ghost use Rattle.std.specs.Prelude.{IsTrue};
 ghost use Rattle.um_vm.specs.Phases.{phase_holds};
 
 use crate::phase::{End, Phase, first_phase};
-use crate::run::Run;
 use crate::step::Step;
-use crate::stop::Stop;
 use std::alloc::{AllocError, Global};
 use um_machine::Code;
+use um_steps::Run;
 use um_tree::{Outcome, Values};
 use um_units::NoMemory;
+use um_words::Stop;
 
 /// A machine that runs code: a stack of words over shared cells, and the functions that were called.
 ///
@@ -32,7 +32,7 @@ impl<'a> Machine<'a> {
     ghost use Rattle.um_vm.specs.declared.phase.Phase.TheVariants.{Going, Ended};
     ghost use Rattle.um_vm.specs.Ends.{IsEnd};
     ghost use Rattle.um_vm.specs.Phases.{end_holds};
-    ghost use Rattle.um_vm.specs.Stepping.{IsStep, Makes};
+    ghost use Rattle.um_steps.specs.Stepping.{IsStep, Makes};
     ghost use Rattle.um_vm.specs.Showing.{Shows, HasFailed, IsAnswer, IsCallOf};
 
     /// A machine at the start of a call of function `f` of the code on the arguments, in the order of its parameters.

@@ -1,6 +1,6 @@
 use Rattle.std.proofs.Common.{◌∙◌, ap, refl, subst}
 use Rattle.um_machine.specs.Machine.{runs, step}
-use Rattle.um_vm.specs.Stepping.{IsStep}
+use Rattle.um_steps.specs.Stepping.{IsStep}
 use Rattle.um_vm.proofs.Shown.{shown_by}
 use Rattle.um_vm.proofs.machine.Machine.go_on.Goals as goal
 

@@ -1,7 +1,7 @@
 use Rattle.std.proofs.Common.{map, subst}
 use Rattle.std.proofs.lemmas.Option.{slice_get_within}
 use Rattle.um_tree.specs.ValueTree.{value_tree}
-use Rattle.um_vm.specs.Stepping.{IsBegun}
+use Rattle.um_steps.specs.Stepping.{IsBegun}
 use Rattle.um_vm.proofs.Shown.{shows_start, first_holds}
 use Rattle.um_vm.proofs.machine.Machine.start.Goals as goal
 

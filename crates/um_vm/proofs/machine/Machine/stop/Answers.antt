@@ -2,7 +2,7 @@ use Rattle.std.proofs.Common.{ap, refl, subst, Err}
 use Rattle.std.proofs.lemmas.Option.{same_Some}
 use Rattle.um_vm.specs.declared.phase.End.TheVariants as end
 use Rattle.um_vm.specs.declared.phase.Phase.TheVariants as phase
-use Rattle.um_vm.specs.Stepping.{IsStep}
+use Rattle.um_steps.specs.Stepping.{IsStep}
 use Rattle.um_vm.proofs.Shown.{shown_by}
 use Rattle.um_vm.proofs.machine.Machine.stop.Goals as goal
 

@@ -1,0 +1,4 @@
+pub mod Runs
+mod Acted
+mod Leaping
+mod Home

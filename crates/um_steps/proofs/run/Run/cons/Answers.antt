@@ -1,0 +1,25 @@
+use Rattle.std.proofs.Common.{take}
+use Rattle.um_tree.specs.Meaning.{longer}
+use Rattle.um_machine.specs.Machine.{after, pushes}
+use Rattle.um_steps.specs.Going.{state_of}
+use Rattle.um_words.proofs.Settled.{value_held}
+use Rattle.um_steps.proofs.Acted.{two_taken, two_missing, same_step}
+use Rattle.um_steps.proofs.run.Run.cons.Goals as goal
+
+pub cons-done-requires-clause-item : goal.cons-done-requires-clause-item
+cons-done-requires-clause-item c = value_held c.args.self.now.stack c.in-Some.at c.in-Some.x c.in-Some.ensures.2
+
+pub cons-done-requires-clause-list : goal.cons-done-requires-clause-list
+cons-done-requires-clause-list c = value_held c.args.self.now.stack _ c.in-Some.y c.in-Some.ensures.3
+
+pub returns-in-Some-clause-step : goal.returns-in-Some-clause-step
+returns-in-Some-clause-step c = λ code vs h.
+    let m = c.args.self.now in
+    let (v, u, p, q, e) = two_taken m vs h.1 (λ low x y. after (longer x y) (pushes code (state_of m vs) low)) c.in-Some.at c.in-Some.x c.in-Some.y c.in-Some.ensures.0 c.in-Some.ensures.1 c.in-Some.ensures.2 c.in-Some.ensures.3 in
+    same_step code c.settle.new.self _ (after (longer v u) (pushes code (state_of m vs) (take c.in-Some.at vs))) c.settle.result e
+    (c.settle.ensures.step code vs (take c.in-Some.at vs) (longer v u) h.0 (c.cons-done.ensures vs v u h.1 p q))
+
+pub returns-in-None-clause-step : goal.returns-in-None-clause-step
+returns-in-None-clause-step c = λ code vs h.
+    let m = c.args.self.now in
+    two_missing m vs h.1 (λ low x y. after (longer x y) (pushes code (state_of m vs) low)) c.in-None.ensures

@@ -1,0 +1,20 @@
+use Rattle.std.proofs.Common.{take}
+use Rattle.um_steps.specs.Going.{state_of}
+use Rattle.um_steps.specs.Stepping.{slides}
+use Rattle.um_words.proofs.Settled.{value_held}
+use Rattle.um_steps.proofs.Acted.{one_taken, one_missing, same_step}
+use Rattle.um_steps.proofs.run.Run.slide.Goals as goal
+
+pub drop_below-requires-clause-value : goal.drop_below-requires-clause-value
+drop_below-requires-clause-value c = value_held c.args.self.now.stack c.in-Some.at c.in-Some.y c.in-Some.ensures.2
+
+pub returns-in-Some-clause-step : goal.returns-in-Some-clause-step
+returns-in-Some-clause-step c = λ code vs h.
+    let m = c.args.self.now in
+    let (v, d, e) = one_taken m vs h.1 (slides code (state_of m vs) c.args.k) c.in-Some.at c.in-Some.y c.in-Some.ensures.0 c.in-Some.ensures.1 c.in-Some.ensures.2 in
+    same_step code c.drop_below.new.self _ (slides code (state_of m vs) c.args.k (take c.in-Some.at vs) v) c.drop_below.result e (c.drop_below.ensures.step code vs v h d)
+
+pub returns-in-None-clause-step : goal.returns-in-None-clause-step
+returns-in-None-clause-step c = λ code vs h.
+    let m = c.args.self.now in
+    one_missing m vs h.1 (slides code (state_of m vs) c.args.k) c.in-None.ensures
