@@ -69,12 +69,11 @@ pub(crate) fn trimmed_some(bytes: &[u8]) -> usize
     trimmed_before(bytes, len - 1)
 }
 
-/// The same, if white space stands from a place on.
+/// How many of so many bytes are left without the white space at their end.
 fn trimmed_before(bytes: &[u8], to: usize) -> usize
-    requires within { to ≤ length bytes.now }
-    requires so_far { trimmed (take to bytes.now) ≡ trimmed bytes.now }
-    ensures within { result ≤ length bytes.now }
-    ensures kept { take result bytes.now ≡ trimmed bytes.now }
+    requires { to ≤ length bytes.now }
+    ensures within { result ≤ to }
+    ensures kept { take result bytes.now ≡ trimmed (take to bytes.now) }
 {
     if !ends_in_space(bytes, to) {
         return to;
@@ -84,10 +83,9 @@ fn trimmed_before(bytes: &[u8], to: usize) -> usize
 
 /// The same, 16 bytes at once.
 fn trimmed_more(bytes: &[u8], to: usize) -> usize
-    requires within { to ≤ length bytes.now }
-    requires so_far { trimmed (take to bytes.now) ≡ trimmed bytes.now }
-    ensures within { result ≤ length bytes.now }
-    ensures kept { take result bytes.now ≡ trimmed bytes.now }
+    requires { to ≤ length bytes.now }
+    ensures within { result ≤ to }
+    ensures kept { take result bytes.now ≡ trimmed (take to bytes.now) }
 {
     let mut len = to;
     while len >= 16 {
@@ -102,10 +100,9 @@ fn trimmed_more(bytes: &[u8], to: usize) -> usize
 
 /// The same, byte by byte.
 fn last_trimmed(bytes: &[u8], to: usize) -> usize
-    requires within { to ≤ length bytes.now }
-    requires so_far { trimmed (take to bytes.now) ≡ trimmed bytes.now }
-    ensures within { result ≤ length bytes.now }
-    ensures kept { take result bytes.now ≡ trimmed bytes.now }
+    requires { to ≤ length bytes.now }
+    ensures within { result ≤ to }
+    ensures kept { take result bytes.now ≡ trimmed (take to bytes.now) }
 {
     let mut len = to;
     while ends_in_space(bytes, len) {

@@ -9,7 +9,7 @@ returns-then-near-gt0-clause-kept c =
     let l = c.loop-len in
     let found = c.near_trimmed-near.ensures in
     let place : l.len - 16 + 16 ≡ l.len = omega arith in
-    trimmed_near bytes (l.len - 16) c.near_trimmed-near.result (omega (arith, place, l.invariant.within)) c.if-near-gt0.true found.within found.passed (found.ended c.if-near-gt0.true)
+    trimmed_near bytes (l.len - 16) c.near_trimmed-near.result (omega (arith, place, l.invariant.within, c.requires)) c.if-near-gt0.true found.within found.passed (found.ended c.if-near-gt0.true)
     ∙ ap (λ k. trimmed (take k bytes)) place
     ∙ l.invariant.so_far
 
@@ -23,7 +23,7 @@ loop-len-preserved c =
     record {
       within = omega (arith, l.invariant.within);
       so_far =
-          trimmed_run bytes (l.len - 16) 16 (omega (arith, place, l.invariant.within)) (λ k low high. found.passed k (omega (arith, low, none)) high)
+          trimmed_run bytes (l.len - 16) 16 (omega (arith, place, l.invariant.within, c.requires)) (λ k low high. found.passed k (omega (arith, low, none)) high)
           ∙ ap (λ k. trimmed (take k bytes)) place
           ∙ l.invariant.so_far;
     }

@@ -9,7 +9,9 @@ returns-then-not-is_space-clause-kept c =
     let bytes = c.args.bytes.now in
     trimmed_all bytes (length bytes) 0 c.requires (omega arith) (sym c.is_space.ensures ∙ c.if-not-is_space.true) ∙ ap trimmed (take_all (length bytes) bytes (omega arith))
 
-pub trimmed_before-requires-clause-so_far : goal.trimmed_before-requires-clause-so_far
-trimmed_before-requires-clause-so_far c =
+pub returns-clause-kept : goal.returns-clause-kept
+returns-clause-kept c =
     let bytes = c.args.bytes.now in
-    trimmed_less bytes (length bytes) 0 c.requires (omega arith) (sym c.is_space.ensures ∙ c.if-not-is_space.false) ∙ ap trimmed (take_all (length bytes) bytes (omega arith))
+    c.trimmed_before.ensures.kept
+    ∙ trimmed_less bytes (length bytes) 0 c.requires (omega arith) (sym c.is_space.ensures ∙ c.if-not-is_space.false)
+    ∙ ap trimmed (take_all (length bytes) bytes (omega arith))
