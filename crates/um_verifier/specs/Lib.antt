@@ -6,6 +6,7 @@ pub mod Laws
 pub mod Tables
 pub mod KnownImages
 pub mod States
+pub mod Points
 pub mod Bodies
 pub mod Names
 pub mod KnownHeads

@@ -13,6 +13,7 @@ ghost use Rattle.um_verifier.specs.Tables.{met_of, flow_of, StaysIn};
 ghost use Rattle.um_verifier.specs.declared.table.Met.TheVariants.{Nobody, Arrived};
 
 use crate::known::{Known, KnownHead};
+use crate::point::Point;
 use crate::rules::rule;
 use crate::table::{Flow, Met, send};
 use crate::view::View;
@@ -53,7 +54,13 @@ fn pass(view: &View, stacks: &Stacks, result_shape: FlatShape, at: u32, end: u32
         Met::Nobody => Flow::Fails,
         Met::Clash => Flow::Fails,
         Met::Arrived(stack) => {
-            let flow = rule(view.known, stacks, result_shape, stack, at, op);
+            let point = Point {
+                known: view.known,
+                stacks,
+                at,
+                stack,
+            };
+            let flow = rule(&point, result_shape, op);
             checked(flow, at, end)
         }
     }

@@ -15,6 +15,7 @@ mod heads;
 mod known;
 mod laws;
 mod names;
+mod point;
 mod records;
 mod rules;
 mod stop;

@@ -5,68 +5,55 @@ ghost use Rattle.um_machine.specs.declared.op.Op.TheVariants.{Load, JumpIfNot, M
 ghost use Rattle.um_machine.specs.declared.op.Op.TheVariants.{Slide, Call, Ret};
 ghost use Rattle.um_machine.specs.Stack.{on_found};
 ghost use Rattle.um_verify.specs.StackShape.{num, list, fits, fit_all};
-ghost use Rattle.um_verify.specs.Rules.{Body, fails, to, fit_one, fit_two, rule};
+ghost use Rattle.um_verify.specs.Rules.{Body, fails, to, fit_one, fit_two};
 ghost use Rattle.um_machine.specs.declared.code.Code.{Code};
 ghost use Rattle.um_stacks.specs.FlatShapes.{item_shape, flat_shape, flat_shapes};
 ghost use Rattle.um_stacks.specs.Stacks.{stack_at, shapes_at};
-ghost use Rattle.um_verifier.specs.KnownImages.{known_heights, known_view, lowered, fit_many};
+ghost use Rattle.um_verifier.specs.KnownImages.{fit_many};
 ghost use Rattle.um_verifier.specs.States.{AreLow};
-ghost use Rattle.um_verifier.specs.Tables.{flow_of};
+ghost use Rattle.um_verifier.specs.Points.{PassesOn, arriving, rule_at};
 
-use crate::known::Known;
+use crate::point::Point;
 use crate::table::{Flow, Pushed, Sent};
 use um_machine::Op;
 use um_stacks::{FlatShape, Item, Stacks};
 
 /// The stack with one more shape goes to the next address, if the shape is low.
-fn pushed(known: &Known, stacks: &Stacks, stack: u32, at: u32, shape: FlatShape) -> Flow
-    requires address { at + 1 < 2 ^ 32 }
-    requires low { AreLow known.now (stack_at stacks.now stack) }
-    ensures { flow_of stacks.now result ≡ lowered (known_heights known.now) (to (at + 1)
-        (shapes_at stacks.now stack ++ flat_shape shape ∷ [])) }
+fn pushed(point: &Point, low: u32, shape: FlatShape) -> Flow
+    requires { AreLow point.now.known.now (stack_at point.now.stacks.now low) }
+    ensures { PassesOn point.now result
+        (to (point.now.at + 1) (shapes_at point.now.stacks.now low ++ flat_shape shape ∷ [])) }
 {
-    if !known.is_low(shape) {
+    if !point.known.is_low(shape) {
         return Flow::Fails;
     }
     Flow::Goes(Sent {
-        to: at + 1,
-        low: stack,
+        to: point.at + 1,
+        low,
         pushed: Pushed::One(shape),
     })
 }
 
 /// `Load`
-pub(crate) fn load(known: &Known, stacks: &Stacks, stack: u32, at: u32, k: u32) -> Flow
-    requires address { at + 1 < 2 ^ 32 }
-    requires low { AreLow known.now (stack_at stacks.now stack) }
-    ensures { (code : Code) (body : Body) → flow_of stacks.now result ≡ lowered (known_heights known.now) (rule
-        (known_view known.now code) body at (shapes_at stacks.now stack) (Load k)) }
+pub(crate) fn load(point: &Point, k: u32) -> Flow
+    ensures { (code : Code) (body : Body) → PassesOn point.now result (rule_at point.now code body (Load k)) }
 {
-    match stacks.at(stack, k) {
+    match point.stacks.at(point.stack, k) {
         None => Flow::Fails,
-        Some(shape) => pushed(known, stacks, stack, at, shape),
+        Some(shape) => pushed(point, point.stack, shape),
     }
 }
 
 /// An instruction on one value, which asks for a shape and gives one.
-pub(crate) fn on_one(
-    known: &Known,
-    stacks: &Stacks,
-    stack: u32,
-    at: u32,
-    asked: FlatShape,
-    given: FlatShape,
-) -> Flow
-    requires address { at + 1 < 2 ^ 32 }
-    requires low { AreLow known.now (stack_at stacks.now stack) }
-    ensures { flow_of stacks.now result ≡ lowered (known_heights known.now) (fit_one at
-        (shapes_at stacks.now stack) (flat_shape asked) (flat_shape given)) }
+pub(crate) fn on_one(point: &Point, asked: FlatShape, given: FlatShape) -> Flow
+    ensures { PassesOn point.now result
+        (fit_one point.now.at (arriving point.now) (flat_shape asked) (flat_shape given)) }
 {
-    match stacks.pop(stack) {
+    match point.stacks.pop(point.stack) {
         None => Flow::Fails,
         Some((y, low)) => {
             if y.fits(asked) {
-                pushed(known, stacks, low, at, given)
+                pushed(point, low, given)
             } else {
                 Flow::Fails
             }
@@ -75,24 +62,15 @@ pub(crate) fn on_one(
 }
 
 /// An instruction on two values, which asks for one shape of both and gives one.
-pub(crate) fn on_two(
-    known: &Known,
-    stacks: &Stacks,
-    stack: u32,
-    at: u32,
-    asked: FlatShape,
-    given: FlatShape,
-) -> Flow
-    requires address { at + 1 < 2 ^ 32 }
-    requires low { AreLow known.now (stack_at stacks.now stack) }
-    ensures { flow_of stacks.now result ≡ lowered (known_heights known.now) (fit_two at
-        (shapes_at stacks.now stack) (flat_shape asked) (flat_shape given)) }
+pub(crate) fn on_two(point: &Point, asked: FlatShape, given: FlatShape) -> Flow
+    ensures { PassesOn point.now result
+        (fit_two point.now.at (arriving point.now) (flat_shape asked) (flat_shape given)) }
 {
-    match stacks.pop_two(stack) {
+    match point.stacks.pop_two(point.stack) {
         None => Flow::Fails,
         Some((x, y, low)) => {
             if both_fit(x, y, asked) {
-                pushed(known, stacks, low, at, given)
+                pushed(point, low, given)
             } else {
                 Flow::Fails
             }
@@ -107,31 +85,27 @@ fn both_fit(x: FlatShape, y: FlatShape, asked: FlatShape) -> bool
 }
 
 /// `Jump`
-pub(crate) fn jump(known: &Known, stacks: &Stacks, stack: u32, t: u32) -> Flow
-    requires low { AreLow known.now (stack_at stacks.now stack) }
-    ensures { flow_of stacks.now result ≡ lowered (known_heights known.now) (to t (shapes_at stacks.now stack)) }
+pub(crate) fn jump(point: &Point, t: u32) -> Flow
+    ensures { PassesOn point.now result (to t (arriving point.now)) }
 {
     Flow::Goes(Sent {
         to: t,
-        low: stack,
+        low: point.stack,
         pushed: Pushed::Nothing,
     })
 }
 
 /// `JumpIfNot`
-pub(crate) fn jump_if_not(known: &Known, stacks: &Stacks, stack: u32, at: u32, t: u32) -> Flow
-    requires address { at + 1 < 2 ^ 32 }
-    requires low { AreLow known.now (stack_at stacks.now stack) }
-    ensures { (code : Code) (body : Body) → flow_of stacks.now result ≡ lowered (known_heights known.now) (rule
-        (known_view known.now code) body at (shapes_at stacks.now stack) (JumpIfNot t)) }
+pub(crate) fn jump_if_not(point: &Point, t: u32) -> Flow
+    ensures { (code : Code) (body : Body) → PassesOn point.now result (rule_at point.now code body (JumpIfNot t)) }
 {
-    match stacks.pop(stack) {
+    match point.stacks.pop(point.stack) {
         None => Flow::Fails,
         Some((y, low)) => {
             if y.fits(FlatShape::of(Item::Bool)) {
                 Flow::Forks(
                     Sent {
-                        to: at + 1,
+                        to: point.at + 1,
                         low,
                         pushed: Pushed::Nothing,
                     },
@@ -149,12 +123,11 @@ pub(crate) fn jump_if_not(known: &Known, stacks: &Stacks, stack: u32, at: u32, t
 }
 
 /// `Ret`
-pub(crate) fn ret(known: &Known, stacks: &Stacks, stack: u32, result_shape: FlatShape) -> Flow
-    ensures { (code : Code) (at : ℕ) (body : Body) → body.result ≡ flat_shape result_shape → flow_of stacks.now result
-        ≡ lowered (known_heights known.now) (rule (known_view known.now code) body at (shapes_at stacks.now stack)
-        Ret) }
+pub(crate) fn ret(point: &Point, result_shape: FlatShape) -> Flow
+    ensures { (code : Code) (body : Body) → body.result ≡ flat_shape result_shape
+        → PassesOn point.now result (rule_at point.now code body Ret) }
 {
-    match stacks.pop(stack) {
+    match point.stacks.pop(point.stack) {
         None => Flow::Fails,
         Some((y, _)) => {
             if y.fits(result_shape) {
@@ -167,86 +140,73 @@ pub(crate) fn ret(known: &Known, stacks: &Stacks, stack: u32, result_shape: Flat
 }
 
 /// `Slide`
-pub(crate) fn slide(known: &Known, stacks: &Stacks, stack: u32, at: u32, k: u32) -> Flow
-    requires address { at + 1 < 2 ^ 32 }
-    requires low { AreLow known.now (stack_at stacks.now stack) }
-    ensures { (code : Code) (body : Body) → flow_of stacks.now result ≡ lowered (known_heights known.now) (rule
-        (known_view known.now code) body at (shapes_at stacks.now stack) (Slide k)) }
+pub(crate) fn slide(point: &Point, k: u32) -> Flow
+    ensures { (code : Code) (body : Body) → PassesOn point.now result (rule_at point.now code body (Slide k)) }
 {
-    match stacks.pop(stack) {
+    match point.stacks.pop(point.stack) {
         None => Flow::Fails,
         Some((y, low)) => {
-            let height = stacks.height(low);
+            let height = point.stacks.height(low);
             if height < k {
                 return Flow::Fails;
             }
-            let lower = stacks.lower(low, height - k);
-            pushed(known, stacks, lower, at, y)
+            let lower = point.stacks.lower(low, height - k);
+            pushed(point, lower, y)
         }
     }
 }
 
 /// `MakeList`
-pub(crate) fn make_list(known: &Known, stacks: &Stacks, stack: u32, at: u32, n: u32) -> Flow
-    requires address { at + 1 < 2 ^ 32 }
-    requires low { AreLow known.now (stack_at stacks.now stack) }
-    ensures { (code : Code) (body : Body) → flow_of stacks.now result ≡ lowered (known_heights known.now) (rule
-        (known_view known.now code) body at (shapes_at stacks.now stack) (MakeList n)) }
+pub(crate) fn make_list(point: &Point, n: u32) -> Flow
+    ensures { (code : Code) (body : Body) → PassesOn point.now result (rule_at point.now code body (MakeList n)) }
 {
-    let height = stacks.height(stack);
+    let height = point.stacks.height(point.stack);
     if height < n {
         return Flow::Fails;
     }
-    let item = stacks.joined_items(stack, height - n);
-    let low = stacks.lower(stack, height - n);
-    pushed_list(known, stacks, low, at, item)
+    let item = point.stacks.joined_items(point.stack, height - n);
+    let low = point.stacks.lower(point.stack, height - n);
+    pushed_list(point, low, item)
 }
 
 /// The stack with a list of such items goes to the next address, if there is such an item and the list is low.
-fn pushed_list(known: &Known, stacks: &Stacks, stack: u32, at: u32, item: Option<FlatShape>) -> Flow
-    requires address { at + 1 < 2 ^ 32 }
-    requires low { AreLow known.now (stack_at stacks.now stack) }
-    ensures { flow_of stacks.now result ≡ lowered (known_heights known.now) (on_found
-        (option_map flat_shape item) fails (λ s. to (at + 1) (shapes_at stacks.now stack ++ list s ∷ []))) }
+fn pushed_list(point: &Point, low: u32, item: Option<FlatShape>) -> Flow
+    requires { AreLow point.now.known.now (stack_at point.now.stacks.now low) }
+    ensures { PassesOn point.now result (on_found (option_map flat_shape item) fails
+        (λ s. to (point.now.at + 1) (shapes_at point.now.stacks.now low ++ list s ∷ []))) }
 {
     match item {
         None => Flow::Fails,
         Some(item) => match item.list() {
             None => Flow::Fails,
-            Some(list) => pushed(known, stacks, stack, at, list),
+            Some(list) => pushed(point, low, list),
         },
     }
 }
 
 /// `Cons`
-pub(crate) fn cons(known: &Known, stacks: &Stacks, stack: u32, at: u32) -> Flow
-    requires address { at + 1 < 2 ^ 32 }
-    requires low { AreLow known.now (stack_at stacks.now stack) }
-    ensures { (code : Code) (body : Body) → flow_of stacks.now result ≡ lowered (known_heights known.now) (rule
-        (known_view known.now code) body at (shapes_at stacks.now stack) Cons) }
+pub(crate) fn cons(point: &Point) -> Flow
+    ensures { (code : Code) (body : Body) → PassesOn point.now result (rule_at point.now code body Cons) }
 {
-    match stacks.pop_two(stack) {
+    match point.stacks.pop_two(point.stack) {
         None => Flow::Fails,
         Some((x, y, low)) => match y.items() {
             None => Flow::Fails,
-            Some(items) => pushed_list(known, stacks, low, at, x.join(items)),
+            Some(items) => pushed_list(point, low, x.join(items)),
         },
     }
 }
 
 /// `Split`
-pub(crate) fn split(known: &Known, stacks: &Stacks, stack: u32, at: u32, t: u32) -> Flow
-    requires address { at + 1 < 2 ^ 32 }
-    requires low { AreLow known.now (stack_at stacks.now stack) }
-    ensures { (code : Code) (body : Body) → flow_of stacks.now result ≡ lowered (known_heights known.now) (rule
-        (known_view known.now code) body at (shapes_at stacks.now stack) (Split t)) }
+pub(crate) fn split(point: &Point, t: u32) -> Flow
+    ensures { (code : Code) (body : Body) → PassesOn point.now result (rule_at point.now code body (Split t)) }
 {
-    match stacks.pop(stack) {
+    match point.stacks.pop(point.stack) {
         None => Flow::Fails,
         Some((y, low)) => match y.items() {
             None => Flow::Fails,
             Some(items) => {
-                if !known.are_low(items, y) {
+                if !point.known.are_low(items, y) {
                     return Flow::Fails;
                 }
                 Flow::Forks(
@@ -256,7 +216,7 @@ pub(crate) fn split(known: &Known, stacks: &Stacks, stack: u32, at: u32, t: u32)
                         pushed: Pushed::Nothing,
                     },
                     Sent {
-                        to: at + 1,
+                        to: point.at + 1,
                         low,
                         pushed: Pushed::Two(items, y),
                     },
@@ -267,17 +227,14 @@ pub(crate) fn split(known: &Known, stacks: &Stacks, stack: u32, at: u32, t: u32)
 }
 
 /// `Field`
-pub(crate) fn field(known: &Known, stacks: &Stacks, stack: u32, at: u32, k: u32) -> Flow
-    requires address { at + 1 < 2 ^ 32 }
-    requires low { AreLow known.now (stack_at stacks.now stack) }
-    ensures { (code : Code) (body : Body) → flow_of stacks.now result ≡ lowered (known_heights known.now) (rule
-        (known_view known.now code) body at (shapes_at stacks.now stack) (Field k)) }
+pub(crate) fn field(point: &Point, k: u32) -> Flow
+    ensures { (code : Code) (body : Body) → PassesOn point.now result (rule_at point.now code body (Field k)) }
 {
-    match stacks.pop(stack) {
+    match point.stacks.pop(point.stack) {
         None => Flow::Fails,
-        Some((y, low)) => match known.part(y, k) {
+        Some((y, low)) => match point.known.part(y, k) {
             None => Flow::Fails,
-            Some(part) => pushed(known, stacks, low, at, part),
+            Some(part) => pushed(point, low, part),
         },
     }
 }
@@ -306,133 +263,92 @@ fn top_fits(stacks: &Stacks, stack: u32, asked: &[FlatShape]) -> bool
 }
 
 /// Takes as many shapes as are asked for, if these fit them, and gives one.
-fn on_all(
-    known: &Known,
-    stacks: &Stacks,
-    stack: u32,
-    at: u32,
-    asked: &[FlatShape],
-    given: FlatShape,
-) -> Flow
-    requires address { at + 1 < 2 ^ 32 }
-    requires low { AreLow known.now (stack_at stacks.now stack) }
-    ensures { flow_of stacks.now result ≡ lowered (known_heights known.now) (fit_many at
-        (shapes_at stacks.now stack) (flat_shapes asked.now) (flat_shape given)) }
+fn on_all(point: &Point, asked: &[FlatShape], given: FlatShape) -> Flow
+    ensures { PassesOn point.now result
+        (fit_many point.now.at (arriving point.now) (flat_shapes asked.now) (flat_shape given)) }
 {
-    let height = stacks.height(stack);
+    let height = point.stacks.height(point.stack);
     if (height as usize) < asked.len() {
         return Flow::Fails;
     }
-    if !top_fits(stacks, stack, asked) {
+    if !top_fits(point.stacks, point.stack, asked) {
         return Flow::Fails;
     }
-    let low = stacks.lower(stack, height - asked.len() as u32);
-    pushed(known, stacks, low, at, given)
+    let low = point.stacks.lower(point.stack, height - asked.len() as u32);
+    pushed(point, low, given)
 }
 
 /// `MakeRec`
-pub(crate) fn make_rec(known: &Known, stacks: &Stacks, stack: u32, at: u32, r: u32, n: u32) -> Flow
-    requires address { at + 1 < 2 ^ 32 }
-    requires low { AreLow known.now (stack_at stacks.now stack) }
-    ensures { (code : Code) (body : Body) → flow_of stacks.now result ≡ lowered (known_heights known.now) (rule
-        (known_view known.now code) body at (shapes_at stacks.now stack) (MakeRec r n)) }
+pub(crate) fn make_rec(point: &Point, r: u32, n: u32) -> Flow
+    ensures { (code : Code) (body : Body) → PassesOn point.now result (rule_at point.now code body (MakeRec r n)) }
 {
-    if known.records.len() <= r as usize {
+    if point.known.records.len() <= r as usize {
         return Flow::Fails;
     }
-    let fields: &[FlatShape] = &known.records[r as usize].fields;
+    let fields: &[FlatShape] = &point.known.records[r as usize].fields;
     if fields.len() != n as usize {
         return Flow::Fails;
     }
-    on_all(
-        known,
-        stacks,
-        stack,
-        at,
-        fields,
-        FlatShape::of(Item::Record(r)),
-    )
+    on_all(point, fields, FlatShape::of(Item::Record(r)))
 }
 
 /// `Call`
-pub(crate) fn call(known: &Known, stacks: &Stacks, stack: u32, at: u32, f: u32) -> Flow
-    requires address { at + 1 < 2 ^ 32 }
-    requires low { AreLow known.now (stack_at stacks.now stack) }
-    ensures { (code : Code) (body : Body) → length code.entries ≡ length known.now.heads.items
-        → flow_of stacks.now result ≡ lowered (known_heights known.now) (rule (known_view known.now code) body at
-        (shapes_at stacks.now stack) (Call f)) }
+pub(crate) fn call(point: &Point, f: u32) -> Flow
+    ensures { (code : Code) (body : Body) → length code.entries ≡ length point.now.known.now.heads.items
+        → PassesOn point.now result (rule_at point.now code body (Call f)) }
 {
-    if known.heads.len() <= f as usize {
+    if point.known.heads.len() <= f as usize {
         return Flow::Fails;
     }
-    let head = &known.heads[f as usize];
-    on_all(known, stacks, stack, at, &head.params, head.result)
+    let head = &point.known.heads[f as usize];
+    on_all(point, &head.params, head.result)
 }
 
 /// The stack with the shape of an item goes to the next address.
-fn push_item(known: &Known, stacks: &Stacks, stack: u32, at: u32, item: Item) -> Flow
-    requires address { at + 1 < 2 ^ 32 }
-    requires low { AreLow known.now (stack_at stacks.now stack) }
-    ensures { flow_of stacks.now result ≡ lowered (known_heights known.now) (to (at + 1)
-        (shapes_at stacks.now stack ++ item_shape item ∷ [])) }
+fn push_item(point: &Point, item: Item) -> Flow
+    ensures { PassesOn point.now result (to (point.now.at + 1) (arriving point.now ++ item_shape item ∷ [])) }
 {
-    pushed(known, stacks, stack, at, FlatShape::of(item))
+    pushed(point, point.stack, FlatShape::of(item))
 }
 
 /// An instruction that asks for a shape and gives it.
-fn on_item(known: &Known, stacks: &Stacks, stack: u32, at: u32, item: Item) -> Flow
-    requires address { at + 1 < 2 ^ 32 }
-    requires low { AreLow known.now (stack_at stacks.now stack) }
-    ensures { flow_of stacks.now result ≡ lowered (known_heights known.now) (fit_one at
-        (shapes_at stacks.now stack) (item_shape item) (item_shape item)) }
+fn on_item(point: &Point, item: Item) -> Flow
+    ensures { PassesOn point.now result (fit_one point.now.at (arriving point.now) (item_shape item) (item_shape item)) }
 {
     let shape = FlatShape::of(item);
-    on_one(known, stacks, stack, at, shape, shape)
+    on_one(point, shape, shape)
 }
 
 /// An instruction on two numbers.
-fn on_numbers(known: &Known, stacks: &Stacks, stack: u32, at: u32, given: Item) -> Flow
-    requires address { at + 1 < 2 ^ 32 }
-    requires low { AreLow known.now (stack_at stacks.now stack) }
-    ensures { flow_of stacks.now result ≡ lowered (known_heights known.now) (fit_two at
-        (shapes_at stacks.now stack) num (item_shape given)) }
+fn on_numbers(point: &Point, given: Item) -> Flow
+    ensures { PassesOn point.now result (fit_two point.now.at (arriving point.now) num (item_shape given)) }
 {
     let number = FlatShape::of(Item::Num);
-    on_two(known, stacks, stack, at, number, FlatShape::of(given))
+    on_two(point, number, FlatShape::of(given))
 }
 
 /// The rule of the instruction, if this stack arrives: what is passed on is low.
-pub(crate) fn rule(
-    known: &Known,
-    stacks: &Stacks,
-    result_shape: FlatShape,
-    stack: u32,
-    at: u32,
-    op: Op,
-) -> Flow
-    requires address { at + 1 < 2 ^ 32 }
-    requires low { AreLow known.now (stack_at stacks.now stack) }
-    ensures { (code : Code) (body : Body) → length code.entries ≡ length known.now.heads.items → body.result
-        ≡ flat_shape result_shape → flow_of stacks.now result ≡ lowered (known_heights known.now) (rule
-        (known_view known.now code) body at (shapes_at stacks.now stack) op) }
+pub(crate) fn rule(point: &Point, result_shape: FlatShape, op: Op) -> Flow
+    ensures { (code : Code) (body : Body) → length code.entries ≡ length point.now.known.now.heads.items
+        → body.result ≡ flat_shape result_shape → PassesOn point.now result (rule_at point.now code body op) }
 {
     match op {
-        Op::PushNum(_) => push_item(known, stacks, stack, at, Item::Num),
-        Op::PushBool(_) => push_item(known, stacks, stack, at, Item::Bool),
-        Op::Load(k) => load(known, stacks, stack, at, k),
-        Op::Add | Op::Sub | Op::Mul | Op::Div => on_numbers(known, stacks, stack, at, Item::Num),
-        Op::Neg | Op::Pow(_) => on_item(known, stacks, stack, at, Item::Num),
-        Op::Not => on_item(known, stacks, stack, at, Item::Bool),
-        Op::Lt | Op::Le | Op::Eq => on_numbers(known, stacks, stack, at, Item::Bool),
-        Op::Jump(t) => jump(known, stacks, stack, t),
-        Op::JumpIfNot(t) => jump_if_not(known, stacks, stack, at, t),
-        Op::MakeList(n) => make_list(known, stacks, stack, at, n),
-        Op::Cons => cons(known, stacks, stack, at),
-        Op::Split(t) => split(known, stacks, stack, at, t),
-        Op::MakeRec(r, n) => make_rec(known, stacks, stack, at, r, n),
-        Op::Field(k) => field(known, stacks, stack, at, k),
-        Op::Slide(k) => slide(known, stacks, stack, at, k),
-        Op::Call(f) => call(known, stacks, stack, at, f),
-        Op::Ret => ret(known, stacks, stack, result_shape),
+        Op::PushNum(_) => push_item(point, Item::Num),
+        Op::PushBool(_) => push_item(point, Item::Bool),
+        Op::Load(k) => load(point, k),
+        Op::Add | Op::Sub | Op::Mul | Op::Div => on_numbers(point, Item::Num),
+        Op::Neg | Op::Pow(_) => on_item(point, Item::Num),
+        Op::Not => on_item(point, Item::Bool),
+        Op::Lt | Op::Le | Op::Eq => on_numbers(point, Item::Bool),
+        Op::Jump(t) => jump(point, t),
+        Op::JumpIfNot(t) => jump_if_not(point, t),
+        Op::MakeList(n) => make_list(point, n),
+        Op::Cons => cons(point),
+        Op::Split(t) => split(point, t),
+        Op::MakeRec(r, n) => make_rec(point, r, n),
+        Op::Field(k) => field(point, k),
+        Op::Slide(k) => slide(point, k),
+        Op::Call(f) => call(point, f),
+        Op::Ret => ret(point, result_shape),
     }
 }

@@ -7,4 +7,4 @@ use Rattle.um_stacks.specs.Stacks.{stack_at}
 use Rattle.um_verifier.proofs.rules.on_item.Goals as goal
 
 pub returns : goal.returns
-returns c = c.on_one.ensures ∙ ap (λ (s : StackShape). lowered (known_heights c.args.known.now) (fit_one c.args.at (flat_shapes (stack_at c.args.stacks.now c.args.stack)) s s)) c.of-shape.ensures
+returns c = c.on_one.ensures ∙ ap (λ (s : StackShape). lowered (known_heights c.args.point.now.known.now) (fit_one c.args.point.now.at (flat_shapes (stack_at c.args.point.now.stacks.now c.args.point.now.stack)) s s)) c.of-shape.ensures

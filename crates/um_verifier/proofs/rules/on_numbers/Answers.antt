@@ -6,4 +6,4 @@ use Rattle.um_stacks.specs.Stacks.{stack_at}
 use Rattle.um_verifier.proofs.rules.on_numbers.Goals as goal
 
 pub returns : goal.returns
-returns c = c.on_two.ensures ∙ (λ i. lowered (known_heights c.args.known.now) (fit_two c.args.at (flat_shapes (stack_at c.args.stacks.now c.args.stack)) (c.of-number.ensures i) (c.of.ensures i)))
+returns c = c.on_two.ensures ∙ (λ i. lowered (known_heights c.args.point.now.known.now) (fit_two c.args.point.now.at (flat_shapes (stack_at c.args.point.now.stacks.now c.args.point.now.stack)) (c.of-number.ensures i) (c.of.ensures i)))
