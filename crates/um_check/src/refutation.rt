@@ -18,6 +18,17 @@ use um_units::wide::WideTerm;
 use um_units::{Atom, NoMemory};
 use um_wide::WideUnit;
 
+/// A product of rows whose powers are taken modulo a number, with each unit parameter as a base unit of its own.
+#[derive(Clone, Copy)]
+struct Congruence<'a> {
+    product: &'a WideUnit,
+    bases: u32,
+    parameters: u32,
+    modulus: i64,
+    ghost room: { IsWithin (2 ^ 126 - 1) product.now },
+    ghost proper: { pos 2 ≤ℤ modulus },
+}
+
 /// Whether the atom is the variable of a slot that no unit parameter has.
 fn is_free(parameters: u32, atom: Atom) -> bool
     ensures { result ≡ is_free parameters atom }
@@ -45,30 +56,31 @@ fn sum(left: i128, right: i128) -> i128
 }
 
 /// The power of a unit parameter, which is a variable and a base unit at once.
-fn parameter_power(product: &WideUnit, bases: u32, k: u32) -> i128
-    requires { IsWithin (2 ^ 126 - 1) product.now }
-    ensures { result ≡ total bases product.now k }
+fn parameter_power(congruence: &Congruence, k: u32) -> i128
+    ensures { result ≡ total congruence.now.bases congruence.now.product.now k }
 {
-    let own = product.power_of(Atom::Var(k));
-    let other = product.base_power(u64::from(bases) + u64::from(k));
+    let own = congruence.product.power_of(Atom::Var(k));
+    let other = congruence
+        .product
+        .base_power(u64::from(congruence.bases) + u64::from(k));
     sum(own, other)
 }
 
 /// The power of the term's atom, with each unit parameter as a base unit of its own.
-fn rigid_power(product: &WideUnit, bases: u32, parameters: u32, term: WideTerm) -> i128
-    requires { IsWithin (2 ^ 126 - 1) product.now }
-    ensures { result ≡ rigid_power bases parameters product.now term.atom term.power }
+fn rigid_power(congruence: &Congruence, term: WideTerm) -> i128
+    ensures { result ≡ rigid_power congruence.now.bases congruence.now.parameters congruence.now.product.now
+        term.atom term.power }
 {
     match term.atom {
         Atom::Var(k) => {
-            if k < parameters {
-                return parameter_power(product, bases, k);
+            if k < congruence.parameters {
+                return parameter_power(congruence, k);
             }
             term.power
         }
         Atom::Base(n) => {
-            if n >= bases && n - bases < parameters {
-                return parameter_power(product, bases, n - bases);
+            if n >= congruence.bases && n - congruence.bases < congruence.parameters {
+                return parameter_power(congruence, n - congruence.bases);
             }
             term.power
         }
@@ -76,48 +88,37 @@ fn rigid_power(product: &WideUnit, bases: u32, parameters: u32, term: WideTerm) 
 }
 
 /// Whether each slot's power is a multiple of the modulus, but for those of unit parameters.
-fn slots_are_divided(terms: &[WideTerm], parameters: u32, modulus: i64) -> bool
-    requires { pos 2 ≤ℤ modulus }
-    ensures { result ≡ slots_divided modulus parameters terms.now }
+fn slots_are_divided(terms: &[WideTerm], congruence: &Congruence) -> bool
+    ensures { result ≡ slots_divided congruence.now.modulus congruence.now.parameters terms.now }
 {
-    terms.iter().all(|term| !is_free(parameters, term.atom) || divided(modulus, term.power))
+    terms.iter().all(|term| {
+        !is_free(congruence.parameters, term.atom) || divided(congruence.modulus, term.power)
+    })
 }
 
-fn is_left(product: &WideUnit, bases: u32, parameters: u32, modulus: i64, term: WideTerm) -> bool
-    requires room { IsWithin (2 ^ 126 - 1) product.now }
-    requires proper { pos 2 ≤ℤ modulus }
-    ensures { result ≡ is_left modulus bases parameters product.now term }
+fn is_left(congruence: &Congruence, term: WideTerm) -> bool
+    ensures { result ≡ is_left congruence.now.modulus congruence.now.bases congruence.now.parameters
+        congruence.now.product.now term }
 {
-    !is_free(parameters, term.atom)
-        && !divided(modulus, rigid_power(product, bases, parameters, term))
+    !is_free(congruence.parameters, term.atom)
+        && !divided(congruence.modulus, rigid_power(congruence, term))
 }
 
-/// Whether some base unit's power isn't, with each unit parameter as a base unit of its own.
-fn base_unit_is_left(
-    terms: &[WideTerm],
-    product: &WideUnit,
-    bases: u32,
-    parameters: u32,
-    modulus: i64,
-) -> bool
-    requires room { IsWithin (2 ^ 126 - 1) product.now }
-    requires proper { pos 2 ≤ℤ modulus }
-    ensures { result ≡ list_any (is_left modulus bases parameters product.now) terms.now }
+/// Whether some base unit's power isn't a multiple of the modulus, with each unit parameter as a base unit of its own.
+fn base_unit_is_left(terms: &[WideTerm], congruence: &Congruence) -> bool
+    ensures { result ≡ list_any (is_left congruence.now.modulus congruence.now.bases congruence.now.parameters
+        congruence.now.product.now) terms.now }
 {
-    terms
-        .iter()
-        .any(|term| is_left(product, bases, parameters, modulus, *term))
+    terms.iter().any(|term| is_left(congruence, *term))
 }
 
 /// Whether the product of rows can't become 1, with each unit parameter as a base unit of its own.
-fn is_apart(product: &WideUnit, bases: u32, parameters: u32, modulus: i64) -> bool
-    requires room { IsWithin (2 ^ 126 - 1) product.now }
-    requires proper { pos 2 ≤ℤ modulus }
-    ensures { IsTrue result ↔ IsApart modulus (replace (rigid_unit bases parameters) product.now) }
+fn is_apart(congruence: &Congruence) -> bool
+    ensures { IsTrue result ↔ IsApart congruence.now.modulus
+        (replace (rigid_unit congruence.now.bases congruence.now.parameters) congruence.now.product.now) }
 {
-    let terms = product.terms();
-    slots_are_divided(terms, parameters, modulus)
-        && base_unit_is_left(terms, product, bases, parameters, modulus)
+    let terms = congruence.product.terms();
+    slots_are_divided(terms, congruence) && base_unit_is_left(terms, congruence)
 }
 
 /// How many slots are base units of their own.
@@ -157,6 +158,12 @@ pub fn check_no(
     }
     let product = product_of_rows(alloc, list, parts)?;
     let fixed = fixed_slots(cert.loose, units);
-    let apart = is_apart(&product, bases, fixed, cert.modulus);
+    let congruence = Congruence {
+        product: &product,
+        bases,
+        parameters: fixed,
+        modulus: cert.modulus,
+    };
+    let apart = is_apart(&congruence);
     Ok(apart)
 }
