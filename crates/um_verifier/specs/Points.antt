@@ -16,10 +16,10 @@ use Rattle.um_verifier.specs.declared.table.Flow.{Flow}
 abbrev pub arriving : Point → List StackShape
 arriving p = shapes_at p.stacks.now p.stack
 
--- what the rule of the instruction passes on, if the point is one of this body
+-- what the rule of the instruction passes on at the point, as part of this code and body
 abbrev pub rule_at : Point → Code → Body → Op → rules.Flow
 rule_at p code body op = rule (known_view p.known.now code) body p.at (arriving p) op
 
--- this is passed on if its states are low, and otherwise the rule fails
+-- the code gives this flow if its states are low, and otherwise a failure
 abbrev pub PassesOn : Point → Flow → rules.Flow → Type 0
 PassesOn p given flow = flow_of p.stacks.now given ≡ lowered (known_heights p.known.now) flow

@@ -1,4 +1,4 @@
-//! A point that an instruction's rule is applied at.
+//! Where the rule of an instruction is applied.
 ghost use Rattle.std.specs.Prelude.{◌<◌, ◌+◌, ◌^◌};
 ghost use Rattle.um_stacks.specs.Stacks.{stack_at};
 ghost use Rattle.um_verifier.specs.States.{AreLow};
@@ -6,8 +6,8 @@ ghost use Rattle.um_verifier.specs.States.{AreLow};
 use crate::known::Known;
 use um_stacks::Stacks;
 
-/// A program point: the address of an instruction, and the number of the stack that arrives at it. The shapes of this
-/// stack are low.
+/// A program point: the address of an instruction, and the number of the stack that arrives there, beside what is known
+/// of the image. The shapes of this stack are low.
 #[derive(Clone, Copy)]
 pub(crate) struct Point<'a> {
     pub(crate) known: &'a Known,

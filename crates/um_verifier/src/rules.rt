@@ -327,7 +327,7 @@ fn on_numbers(point: &Point, given: Item) -> Flow
     on_two(point, number, FlatShape::of(given))
 }
 
-/// The rule of the instruction, if this stack arrives: what is passed on is low.
+/// The rule of the instruction at this point: what is passed on is low.
 pub(crate) fn rule(point: &Point, result_shape: FlatShape, op: Op) -> Flow
     ensures { (code : Code) (body : Body) → length code.entries ≡ length point.now.known.now.heads.items
         → body.result ≡ flat_shape result_shape → PassesOn point.now result (rule_at point.now code body op) }

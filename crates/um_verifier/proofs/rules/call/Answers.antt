@@ -8,13 +8,16 @@ use Rattle.um_verifier.proofs.rules.call.Goals as goal
 
 pub returns-then-len-f : goal.returns-then-len-f
 returns-then-len-f c = λ code body n.
-    let hs = c.args.point.now.known.now.heads.items in
+    let p = c.args.point.now in
+    let hs = p.known.now.heads.items in
     let past : length hs ≤ c.args.f = search rules in
-    call_none c.args.point.now.known.now c.args.point.now.at (stack_at c.args.point.now.stacks.now c.args.point.now.stack) code body c.args.f (bodies_past code.entries hs c.args.f past)
+    call_none p.known.now p.at (stack_at p.stacks.now p.stack) code body c.args.f (bodies_past code.entries hs c.args.f past)
 
 pub returns : goal.returns
 returns c = λ code body n.
-    let hs = c.args.point.now.known.now.heads.items in
+    let p = c.args.point.now in
+    let st = stack_at p.stacks.now p.stack in
+    let hs = p.known.now.heads.items in
     let within : c.args.f < length hs = search rules in
     let b = body_there code.entries hs c.args.f c.index-head.result.now n within c.index-head.ensures in
-    c.on_all.ensures ∙ ap (λ (l : List FlatShape). lowered (known_heights c.args.point.now.known.now) (fit_many c.args.point.now.at (flat_shapes (stack_at c.args.point.now.stacks.now c.args.point.now.stack)) (flat_shapes l) (flat_shape c.index-head.result.now.result))) c.deref.ensures.value ∙ call_is c.args.point.now.known.now c.args.point.now.at (stack_at c.args.point.now.stacks.now c.args.point.now.stack) code body c.args.f b.0 c.index-head.result.now b.1
+    c.on_all.ensures ∙ ap (λ (l : List FlatShape). lowered (known_heights p.known.now) (fit_many p.at (flat_shapes st) (flat_shapes l) (flat_shape c.index-head.result.now.result))) c.deref.ensures.value ∙ call_is p.known.now p.at st code body c.args.f b.0 c.index-head.result.now b.1

@@ -5,17 +5,22 @@ use Rattle.um_verifier.proofs.rules.cons.Goals as goal
 
 pub pushed_list-requires : goal.pushed_list-requires
 pushed_list-requires c =
-    low_left c.args.point.now.known.now (stack_at c.args.point.now.stacks.now c.args.point.now.stack) (stack_at c.args.point.now.stacks.now c.in-Some.low) (c.in-Some.x ∷ c.in-Some.y ∷ []) c.args.point.now.low c.in-Some.ensures
+    let p = c.args.point.now in
+    low_left p.known.now (stack_at p.stacks.now p.stack) (stack_at p.stacks.now c.in-Some.low) (c.in-Some.x ∷ c.in-Some.y ∷ []) p.low c.in-Some.ensures
 
 pub returns-in-None : goal.returns-in-None
 returns-in-None c = λ code body.
-    let few : length (stack_at c.args.point.now.stacks.now c.args.point.now.stack) < 2 = c.in-None.ensures in
-    cons_none c.args.point.now.known.now c.args.point.now.at (stack_at c.args.point.now.stacks.now c.args.point.now.stack) code body few
+    let p = c.args.point.now in
+    let st = stack_at p.stacks.now p.stack in
+    let few : length st < 2 = c.in-None.ensures in
+    cons_none p.known.now p.at st code body few
 
 pub returns-in-None-items : goal.returns-in-None-items
 returns-in-None-items c = λ code body.
-    cons_no_list c.args.point.now.known.now c.args.point.now.at (stack_at c.args.point.now.stacks.now c.args.point.now.stack) code body (stack_at c.args.point.now.stacks.now c.in-Some.low) c.in-Some.x c.in-Some.y c.items.result c.in-Some.ensures c.in-None-items.is c.items.ensures
+    let p = c.args.point.now in
+    cons_no_list p.known.now p.at (stack_at p.stacks.now p.stack) code body (stack_at p.stacks.now c.in-Some.low) c.in-Some.x c.in-Some.y c.items.result c.in-Some.ensures c.in-None-items.is c.items.ensures
 
 pub returns-in-Some-items : goal.returns-in-Some-items
 returns-in-Some-items c = λ code body.
-    c.pushed_list.ensures ∙ cons_is c.args.point.now.known.now c.args.point.now.at (stack_at c.args.point.now.stacks.now c.args.point.now.stack) code body (stack_at c.args.point.now.stacks.now c.in-Some.low) c.in-Some.x c.in-Some.y c.in-Some-items.items c.items.result c.join.result c.in-Some.ensures c.in-Some-items.is c.items.ensures c.join.ensures
+    let p = c.args.point.now in
+    c.pushed_list.ensures ∙ cons_is p.known.now p.at (stack_at p.stacks.now p.stack) code body (stack_at p.stacks.now c.in-Some.low) c.in-Some.x c.in-Some.y c.in-Some-items.items c.items.result c.join.result c.in-Some.ensures c.in-Some-items.is c.items.ensures c.join.ensures

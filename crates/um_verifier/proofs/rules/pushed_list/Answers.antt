@@ -12,8 +12,9 @@ use Rattle.um_verifier.proofs.rules.pushed_list.Goals as goal
 
 pub returns-in-None-list : goal.returns-in-None-list
 returns-in-None-list c =
-    let heights = known_heights c.args.point.now.known.now in
-    let st = flat_shapes (stack_at c.args.point.now.stacks.now c.args.low) in
+    let p = c.args.point.now in
+    let heights = known_heights p.known.now in
+    let st = flat_shapes (stack_at p.stacks.now c.args.low) in
     let s = list (flat_shape c.in-Some.item) in
-    sym (ap (λ (o : Option FlatShape). lowered heights (on_found (option_map flat_shape o) fails (λ s. to (c.args.point.now.at + 1) (st ++ list s ∷ [])))) c.in-Some.is
-    ∙ lowered_to heights (c.args.point.now.at + 1) (st ++ s ∷ []) false (low_push heights st s c.requires ∙ list_too_high c.args.point.now.known.now c.in-Some.item c.in-None-list.ensures))
+    sym (ap (λ (o : Option FlatShape). lowered heights (on_found (option_map flat_shape o) fails (λ s. to (p.at + 1) (st ++ list s ∷ [])))) c.in-Some.is
+    ∙ lowered_to heights (p.at + 1) (st ++ s ∷ []) false (low_push heights st s c.requires ∙ list_too_high p.known.now c.in-Some.item c.in-None-list.ensures))
