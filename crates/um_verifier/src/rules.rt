@@ -1,6 +1,6 @@
 //! The rules of instructions. Each looks at the stack that arrives at its address, and says what is passed on: a lower
 //! part of that stack, by its number, and what is pushed on it.
-ghost use Rattle.std.specs.Prelude.{◌≡◌, ◌<◌, ◌≤◌, ◌+◌, ◌-◌, ◌++◌, ◌^◌, ◌∷◌, ◌&&◌, [], ℕ, option_map, length, drop};
+ghost use Rattle.std.specs.Prelude.{◌≡◌, ◌≤◌, ◌+◌, ◌-◌, ◌++◌, ◌∷◌, ◌&&◌, [], option_map, length, drop};
 ghost use Rattle.um_machine.specs.declared.op.Op.TheVariants.{Load, JumpIfNot, MakeList, Cons, Split, MakeRec, Field};
 ghost use Rattle.um_machine.specs.declared.op.Op.TheVariants.{Slide, Call, Ret};
 ghost use Rattle.um_machine.specs.Stack.{on_found};
