@@ -1,18 +1,16 @@
 -- The core's other rows solved one by one: what is left of them after the first rows.
-use Rattle.std.proofs.Common.{◌≡◌, ℕ, suc, ◌+◌, ◌-◌, ◌<◌, ◌≤◌, Bool, true, false, cond, nat_eq, List, [], ◌∷◌, length, map, get_or, Option, Some, None, refl, sym, ap, ◌∙◌, subst, arith}
-use Rattle.std.specs.Prelude.{All, filter}
+use Rattle.std.proofs.Common.{◌≡◌, ℕ, suc, ◌+◌, ◌-◌, ◌<◌, ◌≤◌, Bool, true, false, cond, nat_eq, List, ◌∷◌, length, get_or, Some, None, sym, ap, ◌∙◌, subst, arith}
+use Rattle.std.specs.Prelude.{filter}
 use Rattle.std.specs.List.{list_any, range_with_len}
 use Rattle.std.proofs.lemmas.List.{get_or-map, length-map}
-use Rattle.std.proofs.lemmas.List.Elements.{All-get_or}
 use Rattle.um_units.specs.PowerMap.{PowerMap, one}
-use Rattle.um_units.specs.Variables.{VariablesBelow}
 use Rattle.um_elim.specs.Elimination.{Elimination, Solved, NoSolution, Range, eliminate, on_solved, eliminate_rows}
 use Rattle.um_elim.specs.Solution.{Solution, rigid, rigid_units}
 use Rattle.um_elim.proofs.Slots.{length-rigid}
 use Rattle.um_equal_types.specs.declared.row.Row.{Row}
 use Rattle.um_equal_types.specs.Steps.{units_of}
 use Rattle.um_reasons.specs.Reasons.{numbered, other_rows}
-use Rattle.um_reasons.specs.Answers.{IsUnsolved, IsSolving, IsJoined, IsJoinedIf}
+use Rattle.um_reasons.specs.Answers.{IsUnsolved, IsSolving, IsJoined}
 
 module _ (bases parameters slots : ℕ) (rows : List Row) (core : List ℕ) where
   abbrev units : List PowerMap
@@ -57,7 +55,7 @@ module _ (bases parameters slots : ℕ) (rows : List Row) (core : List ℕ) wher
     one_more = left.rest ∙ ap (λ n. eliminate_rows s.units (others k n)) at_k
 
     -- a row that is none of the core
-    passed : is_other k ≡ false → IsLeft (k + 1) s
+    pub passed : is_other k ≡ false → IsLeft (k + 1) s
     passed e = record {
       rest = one_more ∙ ap (λ b. eliminate_rows s.units (numbered units (cond b (k ∷ filter is_other (range_with_len (k + 1) m)) (filter is_other (range_with_len (k + 1) m))))) e;
       unspent = left.unspent;
@@ -73,7 +71,8 @@ module _ (bases parameters slots : ℕ) (rows : List Row) (core : List ℕ) wher
           one_more ∙ ap (λ b. eliminate_rows s.units (numbered units (cond b (k ∷ filter is_other (range_with_len (k + 1) m)) (filter is_other (range_with_len (k + 1) m))))) e
           ∙ ap (λ u. on_solved (eliminate s.units u) (λ vs. eliminate_rows vs (others (k + 1) m))) unit_is
 
-      joined : is_other k ≡ true → (b : Bool) → b ≡ true → IsJoined s row.unit new b → length new.units ≡ length s.units → IsLeft (k + 1) new
+      -- the next row, which is one of the core
+      pub joined : is_other k ≡ true → (b : Bool) → b ≡ true → IsJoined s row.unit new b → length new.units ≡ length s.units → IsLeft (k + 1) new
       joined e true f j same = record {
         rest = here e ∙ ap (λ o. on_solved o (λ vs. eliminate_rows vs (others (k + 1) m))) j.0;
         unspent = j.1;
@@ -86,20 +85,9 @@ module _ (bases parameters slots : ℕ) (rows : List Row) (core : List ℕ) wher
       unsolved NoSolution h = tt
       unsolved Range h = tt
 
-      -- the next row
-      pub stepped : (asked : Bool) → is_other k ≡ asked → (b : Bool) → b ≡ true → IsJoinedIf asked s row.unit new b → length new.units ≡ length s.units → IsLeft (k + 1) new
-      stepped true e b f j same = joined e b f j same
-      stepped false e b f j same = subst (IsLeft (k + 1)) (sym j.1) (passed e)
-
-      pub refused : (asked : Bool) → is_other k ≡ asked → (b : Bool) → b ≡ false → IsJoinedIf asked s row.unit new b → IsSolving whole None
-      refused true e true f j = absurd (cc f)
-      refused true e false f j = subst IsUnsolved (sym (here e)) (unsolved (eliminate s.units row.unit) j)
-      refused false e b f j = let clash : true ≡ false = sym j.0 ∙ f in absurd (cc clash)
+      pub refused : is_other k ≡ true → (b : Bool) → b ≡ false → IsJoined s row.unit new b → IsSolving whole None
+      refused e true f j = absurd (cc f)
+      refused e false f j = subst IsUnsolved (sym (here e)) (unsolved (eliminate s.units row.unit) j)
 
   pub all_solved : (k : ℕ) (s : Solution) → length rows - 1 ≤ k → IsLeft k s → IsSolving whole (Some s)
   all_solved k s past left = (left.rest ∙ (let e : (length units - 1) - k ≡ 0 = omega (arith, past, many) in ap (λ n. eliminate_rows s.units (others k n)) e), left.unspent)
-
-pub row_below : (slots n : ℕ) (rows : List Row) (k : ℕ) (row : Row) → n ≡ slots → k < length rows → row ≡ get_or rows k row → All (λ (r : Row). VariablesBelow slots r.unit) rows → VariablesBelow n row.unit
-row_below slots n rows k row e l is below =
-    subst (λ m. VariablesBelow m row.unit) (sym e)
-    (subst (λ (r : Row). VariablesBelow slots r.unit) (sym is) (All-get_or (λ (r : Row). VariablesBelow slots r.unit) rows k row l below))

@@ -1,6 +1,6 @@
 -- The two types of a reason are most general, and never equal.
 -- Source: Kennedy (1996): a most general unifier.
-use Rattle.std.proofs.Common.{◌≡◌, ◌⊎◌, inl, inr, ℕ, zero, suc, ◌+◌, ◌-◌, ◌<◌, ◌≤◌, Bool, true, false, cond, ◌&&◌, nat_eq, IsTrue, List, [], ◌∷◌, ◌++◌, map, length, get_or, Option, refl, sym, ap, ◌∙◌, subst, arith}
+use Rattle.std.proofs.Common.{◌≡◌, ◌⊎◌, inl, inr, ℕ, zero, suc, ◌+◌, ◌-◌, ◌<◌, ◌≤◌, Bool, true, false, cond, ◌&&◌, nat_eq, List, [], ◌∷◌, ◌++◌, map, length, get_or, Option, refl, sym, ap, ◌∙◌, subst, arith}
 use Rattle.std.specs.Prelude.{All, Contains, filter}
 use Rattle.std.specs.List.{list_any, range_with_len}
 use Rattle.std.proofs.lemmas.Bool.{cases_eq}
@@ -11,7 +11,7 @@ use Rattle.std.proofs.lemmas.Map.Views.{list_any-from_Contains}
 use Rattle.um_units.specs.declared.Atom.TheVariants.{Var}
 use Rattle.um_units.specs.PowerMap.{PowerMap, one, atom, replace, nth}
 use Rattle.um_units.specs.Variables.{VariablesBelow}
-use Rattle.um_units.specs.Solutions.{Solves, IsJointSolution, IsSolvable, IsSubstitutionInstance}
+use Rattle.um_units.specs.Solutions.{Solves, IsJointSolution}
 use Rattle.um_units.proofs.Solutions.{Solves-append, Solves-front, Solves-back, IsSubstitutionInstance_refl}
 use Rattle.um_tree.specs.TypeTree.{TypeTree}
 use Rattle.um_tree.specs.Typing.{put}
@@ -28,11 +28,10 @@ use Rattle.um_elim.proofs.VariablesKept.{solved_below, all_rigid_below, put_belo
 use Rattle.um_equal_types.specs.Steps.{units_of}
 use Rattle.um_agree.specs.Agreements.{Agreement, agreement_rows}
 use Rattle.um_agree.proofs.AgreementRows.{agreements_are_equalities}
-use Rattle.um_core.specs.Core.{picked, IsCore}
-use Rattle.um_core.specs.Laws.{EndsUnsolvable}
+use Rattle.um_core.specs.Core.{picked}
 use Rattle.um_core.proofs.Satisfying.{all_unmap}
 use Rattle.um_core.proofs.CoreLaws.{further_below}
-use Rattle.um_reasons.specs.Reasons.{Reason, disagree, units_pass, factor, by_units, by_elimination, other_rows, numbered, reason}
+use Rattle.um_reasons.specs.Reasons.{disagree, units_pass, factor, by_elimination, other_rows, numbered, reason}
 use Rattle.um_reasons.specs.Laws.{HoldSlots, IsExplained, ToldTypesAreMostGeneral, ToldTypesNeverAgree, ToldTypesHoldSlots}
 
 -- ---- rows that are solved one after another

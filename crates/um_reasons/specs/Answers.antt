@@ -1,6 +1,6 @@
 -- What the calls of this crate answer.
 -- Source: this project's own.
-use Rattle.std.specs.Prelude.{◌≡◌, ℕ, Bool, true, false, IsTrue, IsFalse, Option, Some, None, length}
+use Rattle.std.specs.Prelude.{◌≡◌, Bool, true, false, IsTrue, IsFalse, Option, Some, None}
 use Rattle.um_units.specs.PowerMap.{PowerMap}
 use Rattle.um_tree.specs.declared.types.Ty.{Ty}
 use Rattle.um_tree.specs.TypeTree.{TypeTree, type_tree}
@@ -31,11 +31,6 @@ IsSolving e None = IsUnsolved e
 abbrev pub IsJoined : Solution → PowerMap → Solution → Bool → Type 0
 IsJoined old row new true = (eliminate old.units row ≡ Solved new.units) × (new.spent ≡ false)
 IsJoined old row new false = IsUnsolved (eliminate old.units row)
-
--- a row that isn't asked for leaves the solution as it is
-abbrev pub IsJoinedIf : Bool → Solution → PowerMap → Solution → Bool → Type 0
-IsJoinedIf false old row new joined = (joined ≡ true) × (new ≡ old)
-IsJoinedIf true old row new joined = IsJoined old row new joined
 
 -- the type is this one, which is in range, or it isn't
 abbrev pub IsApplied : TypeTree → Option Ty → Type 0

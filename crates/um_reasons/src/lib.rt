@@ -14,5 +14,5 @@ pub mod laws;
 mod question;
 mod reasons;
 
-pub use question::Question;
+pub use question::{Question, join};
 pub use reasons::{Reason, reason_of};

@@ -1,14 +1,13 @@
 //! The core's other rows, solved.
 
-ghost use Rattle.std.specs.Prelude.{◌≡◌, ◌<◌, ◌≤◌, ◌+◌, ◌^◌, false, nat_eq, All, IfOk, length};
-ghost use Rattle.std.specs.List.{list_any};
+ghost use Rattle.std.specs.Prelude.{◌≡◌, ◌<◌, ◌≤◌, ◌+◌, ◌^◌, false, All, IfOk, length};
 ghost use Rattle.um_units.specs.Variables.{VariablesBelow};
 ghost use Rattle.um_elim.specs.Elimination.{eliminate_rows};
 ghost use Rattle.um_elim.specs.Solution.{rigid_units};
 ghost use Rattle.um_equal_types.specs.declared.row.Row.{Row};
 ghost use Rattle.um_equal_types.specs.Steps.{units_of};
 ghost use Rattle.um_reasons.specs.Reasons.{numbered, other_rows};
-ghost use Rattle.um_reasons.specs.Answers.{IsSolving, IsJoined, IsJoinedIf};
+ghost use Rattle.um_reasons.specs.Answers.{IsSolving, IsJoined};
 
 use std::alloc::{AllocError, Global};
 use um_elim::{ElimStop, Solver};
@@ -49,34 +48,18 @@ pub(crate) fn others_solved(
         question.parameters,
     )?;
     for k in 0..question.rows.len() - 1 {
-        if !join_other(alloc, &mut solver, question.core, k, &question.rows[k])? {
+        if question.core.contains(&k) && !join(alloc, &mut solver, &question.rows[k])? {
             return Ok(None);
         }
     }
     Ok(Some(solver))
 }
 
-/// Adds row k if it is one of the core, and says whether it is solved with those before.
-fn join_other(
-    alloc: Global,
-    solver: &mut Solver,
-    core: &[usize],
-    k: usize,
-    row: &Row,
-) -> Result<bool, AllocError>
-    requires unspent { solver.old.spent ≡ false }
-    requires variables { VariablesBelow (length solver.old.units) row.now.unit }
-    ensures joined { IfOk result (IsJoinedIf (list_any (nat_eq k) core.now) solver.old row.now.unit solver.new) }
-    ensures slots { length solver.new.units ≡ length solver.old.units }
-{
-    if !core.contains(&k) {
-        return Ok(true);
-    }
-    join(alloc, solver, row)
-}
-
-/// Adds the row, and says whether it is solved with those before.
-fn join(alloc: Global, solver: &mut Solver, row: &Row) -> Result<bool, AllocError>
+/// Adds a row, and says whether it has a solution together with the rows that were added before.
+///
+/// The row's variables are slots of the solver. If the row has no such solution, or a power is out of range, the answer
+/// is false, and the solver takes no further row. Want of memory is the one error. A row is added as by `Solver::add`.
+pub fn join(alloc: Global, solver: &mut Solver, row: &Row) -> Result<bool, AllocError>
     requires unspent { solver.old.spent ≡ false }
     requires variables { VariablesBelow (length solver.old.units) row.now.unit }
     ensures joined { IfOk result (IsJoined solver.old row.now.unit solver.new) }

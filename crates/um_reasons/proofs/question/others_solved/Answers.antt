@@ -1,9 +1,11 @@
-use Rattle.std.proofs.Common.{arith, refl, sym, subst, nat_eq}
+use Rattle.std.proofs.Common.{◌≡◌, ◌<◌, ◌+◌, ◌-◌, true, false, nat_eq, length, arith, rules, sym, subst}
 use Rattle.std.specs.List.{list_any}
+use Rattle.um_elim.specs.Solution.{Solution}
 use Rattle.um_equal_types.specs.declared.row.Row.{Row}
-use Rattle.um_reasons.specs.Answers.{IsJoinedIf}
-use Rattle.um_reasons.proofs.OthersLeft.{none_solved, stepped, refused}
+use Rattle.um_reasons.specs.Answers.{IsJoined}
+use Rattle.um_reasons.proofs.OthersLeft.{IsLeft, none_solved, passed, joined, refused}
 use Rattle.um_reasons.proofs.question.others_solved.Goals as goal
+use Rattle.um_reasons.proofs.question.others_solved.Goals.{else-contains-via-then-contains+in_ok-join+else-not-branch, else-contains-via-else-contains}
 
 pub loop-k-init : goal.loop-k-init
 loop-k-init c =
@@ -13,16 +15,29 @@ loop-k-init c =
 pub returns-then-not-branch : goal.returns-then-not-branch
 returns-then-not-branch c =
     let q = c.args.question.now in
+    let k = c.loop-k.k-counter in
     let row = c.index-question-k.result in
-    refused q.bases q.parameters q.slots q.rows.now q.core.now c.loop-k.k c.loop-k.solver (omega (arith, c.loop-k-test.true)) c.loop-k.invariant row c.index-question-k.is c.join_other.new.solver (list_any (nat_eq c.loop-k.k) q.core.now) refl c.in_ok-join_other.field-0
-    c.if-not-branch.true
-    (subst (λ (r : Row). IsJoinedIf (list_any (nat_eq c.loop-k.k) q.core.now) c.loop-k.solver r.unit c.join_other.new.solver c.in_ok-join_other.field-0) (sym c.index-question-k.is) c.in_ok-join_other.ensures.joined)
+    let solved = c.in_ok-join.field-0 in
+    let listed : list_any (nat_eq k) q.core.now ≡ true = search rules in
+    refused q.bases q.parameters q.slots q.rows.now q.core.now k c.loop-k.solver (omega (arith, c.loop-k-test.true)) c.loop-k.invariant row c.index-question-k.is c.join.new.solver listed solved c.if-not-branch.true
+    (subst (λ (r : Row). IsJoined c.loop-k.solver r.unit c.join.new.solver solved) (sym c.index-question-k.is) c.in_ok-join.ensures.joined)
 
 pub loop-k-preserved : goal.loop-k-preserved
 loop-k-preserved c =
     let q = c.args.question.now in
-    let row = c.index-question-k.result in
-    stepped q.bases q.parameters q.slots q.rows.now q.core.now c.loop-k.k c.loop-k.solver (omega (arith, c.loop-k-test.true)) c.loop-k.invariant row c.index-question-k.is c.join_other.new.solver (list_any (nat_eq c.loop-k.k) q.core.now) refl c.in_ok-join_other.field-0
-    c.if-not-branch.false
-    (subst (λ (r : Row). IsJoinedIf (list_any (nat_eq c.loop-k.k) q.core.now) c.loop-k.solver r.unit c.join_other.new.solver c.in_ok-join_other.field-0) (sym c.index-question-k.is) c.in_ok-join_other.ensures.joined)
-    c.in_ok-join_other.ensures.slots
+    let k = c.loop-k.k-counter in
+    let below : k < length q.rows.now - 1 = omega (arith, c.loop-k-test.true) in
+    elim c.else-contains.branch [
+      | else-contains-via-then-contains+in_ok-join+else-not-branch w ↦
+          (let row = w.index-question-k.result in
+          let solved = w.in_ok-join.field-0 in
+          let listed : list_any (nat_eq k) q.core.now ≡ true = search rules in
+          subst (λ (s : Solution). IsLeft q.bases q.parameters q.slots q.rows.now q.core.now (k + 1) s) (sym w.solver-is)
+          (joined q.bases q.parameters q.slots q.rows.now q.core.now k c.loop-k.solver below c.loop-k.invariant row w.index-question-k.is w.join.new.solver listed solved w.if-not-branch.false
+          (subst (λ (r : Row). IsJoined c.loop-k.solver r.unit w.join.new.solver solved) (sym w.index-question-k.is) w.in_ok-join.ensures.joined)
+          w.in_ok-join.ensures.slots))
+      | else-contains-via-else-contains w ↦
+          (let unlisted : list_any (nat_eq k) q.core.now ≡ false = search rules in
+          subst (λ (s : Solution). IsLeft q.bases q.parameters q.slots q.rows.now q.core.now (k + 1) s) (sym w.solver-is)
+          (passed q.bases q.parameters q.slots q.rows.now q.core.now k c.loop-k.solver below c.loop-k.invariant unlisted))
+    ]
