@@ -10,7 +10,7 @@ use Rattle.um_elim.specs.Solution.{Solution, rigid, rigid_units}
 use Rattle.um_elim.proofs.Slots.{length-rigid}
 use Rattle.um_equal_types.specs.declared.row.Row.{Row}
 use Rattle.um_rows.specs.FirstUnsolvable.{Solving, solved, unsolved, out_of_range, after_row, solve}
-use Rattle.um_unit_reasons.specs.Answers.{IsUnsolved, IsJoined}
+use Rattle.um_reasons.specs.Answers.{IsUnsolved, IsJoined}
 
 module _ (bases parameters slots : ℕ) (rows : List Row) where
   abbrev pub whole : Solving

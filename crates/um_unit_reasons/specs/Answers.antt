@@ -3,16 +3,14 @@
 use Rattle.std.specs.Prelude.{◌≡◌, ◌≤◌, ◌<◌, ℕ, ◌||◌, nat_eq, if◌then◌else◌, Bool, true, false, IsTrue, All}
 use Rattle.std.specs.Prelude.{List, [], ◌∷◌, ◌++◌, map, length, slice_index_or, slice_get, Some, None, Result, Ok, Err}
 use Rattle.std.specs.List.{list_any, list_all}
-use Rattle.um_units.specs.PowerMap.{PowerMap}
 use Rattle.um_units.specs.declared.UnitStop.{UnitStop}
 use Rattle.um_units.specs.declared.UnitStop.TheVariants as units
 use Rattle.um_units.specs.Variables.{VariablesBelow}
 use Rattle.um_tree.specs.TypeTree.{TypeTree, type_trees}
 use Rattle.um_tree.specs.Scheme.{variables}
 use Rattle.um_tree.specs.ProgramTree.{FunctionTree, ProgramTree, SchemeTree, program_tree}
-use Rattle.um_elim.specs.Elimination.{Elimination, Solved, NoSolution, Range, eliminate}
 use Rattle.um_elim.specs.Numbering.{renumbered}
-use Rattle.um_elim.specs.Solution.{Solution, parameter_rows}
+use Rattle.um_elim.specs.Solution.{parameter_rows}
 use Rattle.um_equal_types.specs.declared.row.Row.{Row}
 use Rattle.um_equal_types.specs.Steps.{units_of}
 use Rattle.um_rows.specs.FirstUnsolvable.{rows_up_to}
@@ -122,17 +120,6 @@ pub record IsSound (x : Failing) (agreed : List Agreement) : Type 0 where
       (units_of (rows_up_to x.row x.found.now.rows.list.items.items))
   pub kept : AreKept agreed x.found.now
   pub held : All (HoldsSlots x.found.now.rows.slots) agreed
-
--- ---- rows, solved one by one
-
-abbrev pub IsUnsolved : Elimination → Type 0
-IsUnsolved (Solved us) = ⊥
-IsUnsolved NoSolution = Unit {0}
-IsUnsolved Range = Unit {0}
-
-abbrev pub IsJoined : Solution → PowerMap → Solution → Bool → Type 0
-IsJoined old row new true = (eliminate old.units row ≡ Solved new.units) × (new.spent ≡ false)
-IsJoined old row new false = IsUnsolved (eliminate old.units row)
 
 -- ---- the function of a program
 

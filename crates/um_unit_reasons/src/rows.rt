@@ -1,14 +1,14 @@
 //! The first row that has no solution.
 
-ghost use Rattle.std.specs.Prelude.{◌≡◌, ◌<◌, ◌≤◌, ◌+◌, ◌^◌, ℕ, false, All, IfOk, length};
+ghost use Rattle.std.specs.Prelude.{◌≡◌, ◌<◌, ◌≤◌, ◌+◌, ◌^◌, ℕ, All, IfOk};
 ghost use Rattle.um_units.specs.Variables.{VariablesBelow};
 ghost use Rattle.um_elim.specs.Solution.{rigid_units};
 ghost use Rattle.um_equal_types.specs.declared.row.Row.{Row};
 ghost use Rattle.um_rows.specs.FirstUnsolvable.{solve, unsolved};
-ghost use Rattle.um_unit_reasons.specs.Answers.{IsJoined};
 
 use std::alloc::{AllocError, Global};
-use um_elim::{ElimStop, Solver};
+use um_elim::Solver;
+use um_reasons::join;
 use um_rows::Row;
 
 /// The number of the first row with which the rows have no solution in which each unit parameter is a unit of its own.
@@ -35,19 +35,4 @@ pub(crate) fn first_unsolvable(
         }
     }
     unreachable!()
-}
-
-/// Adds the row, and says whether it is solved with those before.
-fn join(alloc: Global, solver: &mut Solver, row: &Row) -> Result<bool, AllocError>
-    requires unspent { solver.old.spent ≡ false }
-    requires variables { VariablesBelow (length solver.old.units) row.now.unit }
-    ensures joined { IfOk result (IsJoined solver.old row.now.unit solver.new) }
-    ensures slots { length solver.new.units ≡ length solver.old.units }
-{
-    match solver.add(alloc, &row.unit) {
-        Ok(()) => Ok(true),
-        Err(ElimStop::NoSolution | ElimStop::Range) => Ok(false),
-        Err(ElimStop::NoMemory) => Err(AllocError),
-        Err(ElimStop::Spent) => unreachable!(),
-    }
 }
