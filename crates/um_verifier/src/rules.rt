@@ -313,7 +313,8 @@ fn push_item(point: &Point, item: Item) -> Flow
 
 /// An instruction that asks for a shape and gives it.
 fn on_item(point: &Point, item: Item) -> Flow
-    ensures { PassesOn point.now result (fit_one point.now.at (arriving point.now) (item_shape item) (item_shape item)) }
+    ensures { PassesOn point.now result
+        (fit_one point.now.at (arriving point.now) (item_shape item) (item_shape item)) }
 {
     let shape = FlatShape::of(item);
     on_one(point, shape, shape)
