@@ -6,3 +6,4 @@ pub mod DeclLeast
 pub mod DeclViews
 pub mod DeclTakes
 pub mod DeclTokens
+pub mod DeclStanding

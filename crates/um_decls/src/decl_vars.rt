@@ -4,6 +4,7 @@ ghost use Rattle.um_tree.specs.RawTree.{VarSyntax, var_syntax};
 ghost use Rattle.um_forms.specs.ExprTokens.{expr_token};
 ghost use Rattle.um_decls.specs.DeclMachine.{VarOwner, VarName, VarEnd, take_expected};
 ghost use Rattle.um_decls.specs.DeclViews.{view_fixed_var, view_var, var_state};
+ghost use Rattle.um_decls.specs.DeclStanding.{decl_stands};
 ghost use Rattle.um_decls.specs.DeclTokens.{BeginsAlike};
 
 use std::alloc::{AllocError, Global};
@@ -87,6 +88,23 @@ fn after_token(expected: FixedVarToken, kind: &Kind) -> VarTaken
             _ => VarTaken::Stops,
         },
         FixedVarToken::End => after_var(kind),
+    }
+}
+
+/// Whether a token of this kind goes on among unit parameters.
+pub fn can_take_var(expected: VarExpected, kind: &Kind) -> bool
+    ensures { (o : VarOwner) (vs : List VarSyntax) (p : ℕ) →
+        result ≡ decl_stands (take_expected (view_var o vs expected) (expr_token kind.now) p) }
+{
+    match expected {
+        VarExpected::Token(expected) => match after_token(expected, kind) {
+            VarTaken::Goes(_) | VarTaken::Ends => true,
+            VarTaken::Stops => false,
+        },
+        VarExpected::Name => match kind {
+            Kind::Var(_) => true,
+            _ => false,
+        },
     }
 }
 

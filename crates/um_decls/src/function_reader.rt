@@ -6,8 +6,12 @@ ghost use Rattle.um_decls.specs.DeclHeights.{params_height, result_height};
 
 use crate::decl_end::push_decl;
 use crate::decl_token::take_in_type;
-use crate::decl_vars::{FixedVarToken, VarExpected, VarTaken, clear_vars, take_var};
+use crate::decl_vars::{FixedVarToken, VarExpected, VarTaken, can_take_var, clear_vars, take_var};
 use crate::head::Head;
+use crate::query::{
+    can_bind_param, can_follow_binder, can_follow_function, can_follow_params, can_take_param,
+    can_take_result,
+};
 use std::alloc::{AllocError, Global};
 use std::mem;
 use um_expr::ExprReader;
@@ -96,7 +100,7 @@ impl FunctionBody {
 }
 
 impl FunctionReader {
-    ghost use Rattle.std.specs.Prelude.{IfOk, Some, None, option_map};
+    ghost use Rattle.std.specs.Prelude.{ℕ, IfOk, Some, None, is_some, option_map};
     ghost use Rattle.um_tree.specs.RawTree.{TypeSyntax, binder_syntax, expr_syntax, type_syntax};
     ghost use Rattle.um_reader.specs.Takes.{Gives, Takes};
     ghost use Rattle.um_types.specs.TypeHeights.{whole_height};
@@ -107,7 +111,8 @@ impl FunctionReader {
     ghost use Rattle.um_forms.specs.ExprTokens.{expr_token};
     ghost use Rattle.um_decls.specs.DeclMachine.{NoDecl, Expects, OfFunction, FunctionVars, ParamBinder, ParamColon};
     ghost use Rattle.um_decls.specs.DeclMachine.{InBody, started, take_expected, take_params, body_begins, param_ends};
-    ghost use Rattle.um_decls.specs.DeclMachine.{result_ends, body_found, own_step, decl_finish};
+    ghost use Rattle.um_decls.specs.DeclMachine.{result_ends, body_found, own_step, decl_act, decl_finish};
+    ghost use Rattle.um_decls.specs.DeclStanding.{decl_stands};
     ghost use Rattle.um_decls.specs.DeclLeast.{decl_least, machine_of_declarations};
     ghost use Rattle.um_decls.specs.DeclViews.{head_vars, view_var, start_in, read_params, param_state, function_state};
     ghost use Rattle.um_decls.specs.DeclTakes.{IsLow, Ends};
@@ -136,6 +141,38 @@ impl FunctionReader {
         self.head.at = at;
         mem::forget(mem::replace(&mut self.head.name, name));
         mem::forget(mem::replace(&mut self.expected, FunctionExpected::Named));
+    }
+
+    /// Whether the function goes on with a token of this kind, glued to the one before or not. It isn't taken, and no
+    /// height is asked for.
+    #[tactic(auto, using(crate::proofs::DeclStanding::body_stands))]
+    pub fn can_take(&self, kind: &Kind, glued: bool) -> bool
+        ensures { (p : ℕ) → result
+            ≡ decl_stands (decl_act (function_state self.now) (expr_token kind.now) p glued kind.now) }
+    {
+        match &self.expected {
+            FunctionExpected::Body => self.body.body.can_take(kind, glued),
+            FunctionExpected::Named => can_follow_function(self.recursive, kind),
+            FunctionExpected::Var(expected) => can_take_var(*expected, kind),
+            FunctionExpected::Params => can_follow_params(self.recursive, kind),
+            FunctionExpected::Binder => can_bind_param(kind),
+            FunctionExpected::Colon(_) => can_follow_binder(kind),
+            FunctionExpected::Param(_) => can_take_param(&self.ty, kind),
+            FunctionExpected::Result => can_take_result(&self.ty, kind),
+        }
+    }
+
+    /// Whether the tokens that were taken are a function.
+    #[tactic(auto, using(crate::proofs::DeclStanding::body_whole))]
+    pub fn is_whole(&self) -> bool
+        ensures { result ≡ is_some (decl_finish (function_state self.now)) }
+    {
+        match &self.expected {
+            FunctionExpected::Body => self.body.body.is_whole(),
+            FunctionExpected::Named | FunctionExpected::Var(_) | FunctionExpected::Params => false,
+            FunctionExpected::Binder | FunctionExpected::Colon(_) => false,
+            FunctionExpected::Param(_) | FunctionExpected::Result => false,
+        }
     }
 
     /// One token more. A token that is refused still begins a declaration as it did, though its letters may be gone.

@@ -17,6 +17,7 @@ mod decl_token;
 mod decl_vars;
 mod function_reader;
 mod head;
+mod query;
 mod record_reader;
 
 pub use boxed::in_box;

@@ -7,8 +7,12 @@ ghost use Rattle.um_decls.specs.DeclHeights.{fields_height};
 use crate::boxed::in_box;
 use crate::decl_end::push_found;
 use crate::decl_token::take_in_type;
-use crate::decl_vars::{FixedVarToken, VarExpected, VarTaken, clear_vars, take_var};
+use crate::decl_vars::{FixedVarToken, VarExpected, VarTaken, can_take_var, clear_vars, take_var};
 use crate::head::Head;
+use crate::query::{
+    can_follow_field, can_follow_record, can_follow_record_vars, can_name_field, can_open_fields,
+    can_take_field,
+};
 use std::alloc::{AllocError, Global};
 use std::mem;
 use um_reader::Taken;
@@ -54,7 +58,7 @@ fn clear_fields(alloc: Global, fields: &mut RawFieldDecls)
 }
 
 impl RecordReader {
-    ghost use Rattle.std.specs.Prelude.{IfOk, OnOk, Some, option_map};
+    ghost use Rattle.std.specs.Prelude.{ℕ, Bool, IfOk, OnOk, Some, is_some, option_map};
     ghost use Rattle.um_tree.specs.RawTree.{TypeSyntax, type_syntax, decl_syntax};
     ghost use Rattle.um_reader.specs.Takes.{Gives, Takes};
     ghost use Rattle.um_types.specs.TypeHeights.{whole_height};
@@ -63,7 +67,8 @@ impl RecordReader {
     ghost use Rattle.um_forms.specs.ExprTokens.{expr_token};
     ghost use Rattle.um_decls.specs.DeclMachine.{NoDecl, Expects, OfRecord, RecordVars, RecordEqual, RecordBrace};
     ghost use Rattle.um_decls.specs.DeclMachine.{FieldName, FieldColon, take_expected, with_field_decl, field_ends};
-    ghost use Rattle.um_decls.specs.DeclMachine.{own_step, decl_finish};
+    ghost use Rattle.um_decls.specs.DeclMachine.{own_step, decl_act, decl_finish};
+    ghost use Rattle.um_decls.specs.DeclStanding.{decl_stands};
     ghost use Rattle.um_decls.specs.DeclLeast.{decl_least, machine_of_declarations};
     ghost use Rattle.um_decls.specs.DeclViews.{head_vars, read_fields, view_var, field_state, record_state};
     ghost use Rattle.um_decls.specs.DeclTakes.{IsLow, Ends};
@@ -82,6 +87,35 @@ impl RecordReader {
             ty: TypeReader::new(),
         };
         in_box(alloc, record)
+    }
+
+    /// Whether the record goes on with a token of this kind, which isn't taken. No height is asked for.
+    pub fn can_take(&self, kind: &Kind) -> bool
+        ensures { (p : ℕ) (glued : Bool) → result
+            ≡ decl_stands (decl_act (record_state self.now) (expr_token kind.now) p glued kind.now) }
+    {
+        match &self.expected {
+            FieldExpected::Named => can_follow_record(kind),
+            FieldExpected::Var(expected) => can_take_var(*expected, kind),
+            FieldExpected::Equal => can_follow_record_vars(kind),
+            FieldExpected::Brace => can_open_fields(kind),
+            FieldExpected::Name => can_name_field(kind),
+            FieldExpected::Colon(_, _) => can_follow_field(kind),
+            FieldExpected::Type(_, _) => can_take_field(&self.ty, kind),
+            FieldExpected::Nothing => false,
+        }
+    }
+
+    /// Whether the tokens that were taken are a record.
+    pub fn is_whole(&self) -> bool
+        ensures { result ≡ is_some (decl_finish (record_state self.now)) }
+    {
+        match &self.expected {
+            FieldExpected::Nothing => true,
+            FieldExpected::Named | FieldExpected::Var(_) | FieldExpected::Equal => false,
+            FieldExpected::Brace | FieldExpected::Name => false,
+            FieldExpected::Colon(_, _) | FieldExpected::Type(_, _) => false,
+        }
     }
 
     /// One token more. A token that is refused still begins a declaration as it did, though its letters may be gone.

@@ -15,3 +15,4 @@ mod ExprReading
 mod ExprExamples
 mod ExprInside
 mod ExprEmptied
+mod Standing

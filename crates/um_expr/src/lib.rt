@@ -8,6 +8,7 @@
 #![tactic(auto)]
 
 pub mod laws;
+mod query;
 mod reader;
 mod step;
 

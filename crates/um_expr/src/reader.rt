@@ -1,5 +1,6 @@
 // An expression that is read one token at a time.
-ghost use Rattle.std.specs.Prelude.{◌≡◌, ◌⊎◌, ◌+◌, ◌≤◌, [], cond, nat_lt, IfOk, IfSome, OnOk, None, option_map};
+ghost use Rattle.std.specs.Prelude.{◌≡◌, ℕ, ◌⊎◌, ◌+◌, ◌≤◌, [], cond, nat_lt, IfOk, IfSome, OnOk, None, is_some};
+ghost use Rattle.std.specs.Prelude.{option_map};
 ghost use Rattle.um_syntax.specs.Emptied.{emptied};
 ghost use Rattle.um_tree.specs.RawTree.{expr_syntax, note_syntax, type_syntax};
 ghost use Rattle.um_reader.specs.Takes.{Gives, Takes};
@@ -12,10 +13,13 @@ ghost use Rattle.um_operands.specs.ExprLeast.{whole_least};
 ghost use Rattle.um_operands.specs.ExprOperands.{operand_expr};
 ghost use Rattle.um_operands.specs.ExprStack.{frames_of};
 ghost use Rattle.um_operands.specs.ExprFocus.{state_of, open_in, begun_state};
-ghost use Rattle.um_expr.specs.ExprMachine.{own_step, machine_of_expressions};
+ghost use Rattle.um_operands.specs.Standing.{stands};
+ghost use Rattle.um_forms.specs.ExprTokens.{expr_token};
+ghost use Rattle.um_expr.specs.ExprMachine.{act, own_step, machine_of_expressions};
 ghost use Rattle.um_forms.specs.ExprSteps.{Simulates};
 ghost use Rattle.um_expr.specs.ExprStates.{expr_state, IsLow};
 
+use crate::query::{can_take, can_take_in_note, can_take_in_type, is_whole};
 use crate::step::{note_ends, step, type_ends};
 use std::alloc::{AllocError, Global};
 use std::mem;
@@ -106,6 +110,28 @@ impl ExprReader {
         ExprReader {
             begun: Begun::new(alloc),
             inner: Inner::Nothing,
+        }
+    }
+
+    /// Whether the expression goes on with a token of this kind, glued to the one before or not. It isn't taken, and no
+    /// height is asked for.
+    pub fn can_take(&self, kind: &Kind, glued: bool) -> bool
+        ensures { (at : ℕ) → result ≡ stands (act (expr_state self.now) (expr_token kind.now) at glued kind.now) }
+    {
+        match &self.inner {
+            Inner::Nothing => can_take(&self.begun, kind, glued),
+            Inner::Note(_, _, note) => can_take_in_note(note, kind),
+            Inner::Type(_, ty) => can_take_in_type(ty, kind),
+        }
+    }
+
+    /// Whether the tokens that were taken are an expression.
+    pub fn is_whole(&self) -> bool
+        ensures { result ≡ is_some (finish (expr_state self.now)) }
+    {
+        match &self.inner {
+            Inner::Nothing => is_whole(&self.begun),
+            Inner::Note(_, _, _) | Inner::Type(_, _) => false,
         }
     }
 

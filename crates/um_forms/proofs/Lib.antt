@@ -1,1 +1,2 @@
 mod ExprRefusals
+mod Standing

@@ -1,6 +1,6 @@
 -- What a step of the code gives, and the tests that it makes.
 -- Source: this project's own.
-use Rattle.std.specs.Prelude.{◌≡◌, ℕ, Bool, false, List, [], ◌∷◌, Option, Some, None, option_map}
+use Rattle.std.specs.Prelude.{◌≡◌, ℕ, Bool, true, false, List, [], ◌∷◌, Option, Some, None, option_map}
 use Rattle.um_vocabulary.specs.declared.vocabulary.Symbol.{Symbol}
 use Rattle.um_vocabulary.specs.declared.vocabulary.Symbol.TheVariants as symbol
 use Rattle.um_tree.specs.RawTree.{ExprSyntax}
@@ -12,8 +12,8 @@ use Rattle.um_operands.specs.declared.begun.Begun.{Begun}
 use Rattle.um_operands.specs.declared.focus.Step.{Step}
 use Rattle.um_operands.specs.declared.focus.Step.TheVariants as step
 use Rattle.um_operands.specs.Ranks.{left_limit}
-use Rattle.um_operands.specs.ExprBegun.{Frame, InBracket, NilColon, State, Have, Inside, InNote, InType, Refused}
-use Rattle.um_operands.specs.ExprBegun.{reduce, finish}
+use Rattle.um_operands.specs.ExprBegun.{Frame, InBracket, InItem, Expected, NilColon, PownDigits, State, Have, Inside}
+use Rattle.um_operands.specs.ExprBegun.{InNote, InType, Refused, reduce, finish}
 use Rattle.um_operands.specs.ExprOperands.{operand_expr}
 use Rattle.um_operands.specs.ExprFrames.{is_call}
 use Rattle.um_operands.specs.ExprFocus.{open_in, begun_state}
@@ -61,3 +61,17 @@ abbrev pub NoPlainOperator : Symbol → Type 0
 NoPlainOperator symbol.Less = Unit {0}
 NoPlainOperator symbol.Greater = Unit {0}
 NoPlainOperator s = symbol_token s ≡ mark s
+
+-- `[` without items; `(`
+abbrev pub is_empty_item : Frame → Bool
+is_empty_item (InItem at []) = true
+is_empty_item _ = false
+
+abbrev pub is_bracket : Frame → Bool
+is_bracket (InBracket at) = true
+is_bracket _ = false
+
+-- inside a fixed run of tokens the power of `pown` is expected, in brackets after its sign
+abbrev pub expects_digits : Expected → Bool
+expects_digits (PownDigits at e) = true
+expects_digits _ = false

@@ -17,8 +17,8 @@ use std::mem;
 use um_operands::{Begun, Focus, Frame, Frames, Operand, Operands, Step, composite, whole};
 use um_tree::{Name, RawNode};
 
-// Whether the innermost frame is a call.
-fn in_call(frames: &Frames) -> bool
+/// Whether the innermost frame is a call.
+pub fn in_call(frames: &Frames) -> bool
     ensures { result ≡ in_call (frames_of frames.now) }
 {
     match frames.entries.last() {

@@ -15,6 +15,7 @@ mod closing;
 mod expected;
 mod operator;
 mod power;
+mod query;
 mod token;
 mod wanted;
 
@@ -22,6 +23,10 @@ pub use argument::{begin_argument, name_argument};
 pub use closing::{end_by_mark, end_by_word};
 pub use expected::inside;
 pub use operator::{after_operator, infix_after, less_after};
-pub use power::{bracket_after, number_after};
+pub use power::{bracket_after, in_pown, number_after};
+pub use query::{
+    can_argue, can_be_greater, can_be_less, can_begin, can_close_empty, can_end_by_mark,
+    can_end_by_word, can_stand_between, is_expected,
+};
 pub use token::{ExprToken, plain_operator, plain_word};
 pub use wanted::{after_greater, begin, refuse_token};

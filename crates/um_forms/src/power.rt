@@ -4,6 +4,7 @@ ghost use Rattle.um_operands.specs.declared.focus.Step.TheVariants.{Stops};
 ghost use Rattle.um_operands.specs.ExprBegun.{Have, finish, is_pown};
 ghost use Rattle.um_operands.specs.ExprOperands.{operand_expr};
 ghost use Rattle.um_operands.specs.ExprFrames.{view_frame};
+ghost use Rattle.um_operands.specs.ExprStack.{frames_of};
 ghost use Rattle.um_operands.specs.ExprFocus.{open_in};
 ghost use Rattle.um_forms.specs.ExprForms.{in_pown, pown_after, number_after, pown_bracket, bracket_after, power_of};
 ghost use Rattle.um_forms.specs.ExprSteps.{Simulates, SimulatesAfter};
@@ -13,15 +14,15 @@ use crate::closing::refuse;
 use crate::token::ExprToken;
 use std::alloc::{AllocError, Global};
 use um_frac::Frac;
-use um_operands::{Begun, Expected, Focus, Frame, Operand, Step};
+use um_operands::{Begun, Expected, Focus, Frame, Frames, Operand, Step};
 use um_syntax::{Symbol, Token};
 use um_unit_texts::written_power;
 
-// Whether the power of `pown` is wanted.
-fn in_pown(begun: &Begun) -> bool
-    ensures { result ≡ in_pown (open_in begun.now) }
+/// Whether the power of `pown` is wanted.
+pub fn in_pown(frames: &Frames) -> bool
+    ensures { result ≡ in_pown (frames_of frames.now) }
 {
-    match begun.frames.entries.last() {
+    match frames.entries.last() {
         Some(entry) => entry.frame.is_pown(),
         None => false,
     }
@@ -92,7 +93,7 @@ pub fn number_after(
         (λ s. SimulatesAfter begun.old operand begun.new s
         (number_after (open_in begun.old) (operand_expr operand) value token.now.start (power_of token.now))) }
 {
-    if in_pown(begun) {
+    if in_pown(&begun.frames) {
         pown_after(alloc, begun, operand, token)
     } else {
         begin_argument(alloc, begun, operand, ExprToken::Number(value), token.start)
@@ -137,7 +138,7 @@ pub fn bracket_after(
         (λ s. SimulatesAfter begun.old operand begun.new s
         (bracket_after (open_in begun.old) (operand_expr operand) at)) }
 {
-    if in_pown(begun) {
+    if in_pown(&begun.frames) {
         Ok(pown_bracket(begun, operand))
     } else {
         begin_argument(

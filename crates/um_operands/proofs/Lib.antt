@@ -1,3 +1,4 @@
 mod ExprLists
 mod ExprStackLaws
 mod ExprLow
+pub mod FramesLeft

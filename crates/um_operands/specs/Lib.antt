@@ -9,3 +9,4 @@ pub mod ExprOperands
 pub mod ExprFrames
 pub mod ExprStack
 pub mod ExprFocus
+pub mod Standing

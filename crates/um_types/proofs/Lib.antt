@@ -1,5 +1,6 @@
 pub mod NoteComplete
 pub mod NoteLaws
+mod Standing
 pub mod TypeComplete
 pub mod TypeSound
 pub mod TypeLaws

@@ -10,6 +10,7 @@ pub mod Laws
 pub mod NoteMachine
 pub mod NoteView
 pub mod TypeMachine
+pub mod Standing
 pub mod TypeView
 pub mod SignatureMachine
 pub mod SignatureView

@@ -1,10 +1,12 @@
 // A note that is read one token at a time: `_`, or a unit text.
-ghost use Rattle.std.specs.Prelude.{◌≡◌, IfOk, option_map};
+ghost use Rattle.std.specs.Prelude.{◌≡◌, ℕ, IfOk, is_some, option_map};
 ghost use Rattle.um_tree.specs.RawTree.{note_syntax, unit_syntax};
 ghost use Rattle.um_reader.specs.Takes.{Takes};
 ghost use Rattle.um_unit_texts.specs.UnitStops.{greatest_height};
 ghost use Rattle.um_unit_texts.specs.UnitView.{unit_state};
-ghost use Rattle.um_types.specs.NoteMachine.{NeedNote, InUnit, noted, note_finish, machine_of_notes};
+ghost use Rattle.um_types.specs.NoteMachine.{NeedNote, InUnit, noted, note_act, note_begin, note_finish};
+ghost use Rattle.um_types.specs.NoteMachine.{machine_of_notes};
+ghost use Rattle.um_types.specs.Standing.{note_stands};
 ghost use Rattle.um_types.specs.NoteView.{note_state};
 
 use std::alloc::{AllocError, Global};
@@ -12,7 +14,7 @@ use std::mem;
 use um_reader::{Reader, Taken};
 use um_syntax::{Kind, Token};
 use um_tree::{RawNote, RawUnit};
-use um_unit_texts::{Operand, UnitReader, is_foreign};
+use um_unit_texts::{Operand, UnitReader, can_begin, can_follow, is_foreign};
 
 /// What was read of a note: nothing, `_`, or a unit text at this place, which is an atom so far or has gone on.
 #[derive(Drop)]
@@ -35,6 +37,16 @@ fn note_of(at: u32, unit: Option<RawUnit>) -> Option<RawNote>
     match unit {
         Some(unit) => Some(RawNote::Unit(at, unit)),
         None => None,
+    }
+}
+
+// A token at the beginning of a note.
+fn can_begin_note(kind: &Kind) -> bool
+    ensures { (at : ℕ) → result ≡ note_stands (note_begin kind.now at) }
+{
+    match kind {
+        Kind::Hole => true,
+        _ => can_begin(true, kind),
     }
 }
 
@@ -159,6 +171,30 @@ impl NoteReader {
             NoteFocus::Atom(_, _) | NoteFocus::Unit(_, _) => {
                 drop(mem::replace(&mut self.focus, focus));
             }
+        }
+    }
+
+    /// Whether the note goes on with a token of this kind, which isn't taken.
+    #[tactic(auto, using(crate::proofs::Standing::goes_stands))]
+    pub fn can_take(&self, kind: &Kind) -> bool
+        ensures { (at : ℕ) → result ≡ note_stands (note_act (note_state self.now) kind.now at) }
+    {
+        match &self.focus {
+            NoteFocus::Empty => can_begin_note(kind),
+            NoteFocus::Hole(_) => false,
+            NoteFocus::Atom(_, atom) => can_follow(false, atom, kind),
+            NoteFocus::Unit(_, unit) => unit.can_take(kind),
+        }
+    }
+
+    /// Whether the tokens that were taken are a note.
+    pub fn is_whole(&self) -> bool
+        ensures { result ≡ is_some (note_finish (note_state self.now)) }
+    {
+        match &self.focus {
+            NoteFocus::Empty => false,
+            NoteFocus::Hole(_) | NoteFocus::Atom(_, _) => true,
+            NoteFocus::Unit(_, unit) => unit.is_whole(),
         }
     }
 

@@ -1,12 +1,14 @@
 // A type text that is read one token at a time.
-ghost use Rattle.std.specs.Prelude.{◌≡◌, false, suc, ◌+◌, ◌≤◌, IfOk, None, max, option_map};
-ghost use Rattle.um_tree.specs.RawTree.{TypeSyntax, num_syntax, list_type_syntax, note_syntax, type_syntax};
+ghost use Rattle.std.specs.Prelude.{◌≡◌, ℕ, false, is_some, suc, ◌+◌, ◌≤◌, IfOk, None, max, option_map};
+ghost use Rattle.um_tree.specs.RawTree.{NoteSyntax, TypeSyntax, num_syntax, list_type_syntax, note_syntax, type_syntax};
 ghost use Rattle.um_reader.specs.Takes.{Gives, Takes};
 ghost use Rattle.um_unit_texts.specs.UnitStops.{greatest_height};
 ghost use Rattle.um_types.specs.TypeHeights.{note_height};
 ghost use Rattle.um_types.specs.NoteMachine.{NeedNote, note_finish};
-ghost use Rattle.um_types.specs.TypeMachine.{OfNum, NeedType, HaveType, InNote, NoType, type_begin, type_after};
-ghost use Rattle.um_types.specs.TypeMachine.{close_bracket, open_angle, next_note, note_end, note_ends, own_act};
+ghost use Rattle.um_types.specs.TypeMachine.{OfNum, NeedType, HaveType, InNote, NoType, type_act, type_begin};
+ghost use Rattle.um_types.specs.TypeMachine.{type_after, angle_owner, close_bracket, open_angle, next_note, note_end};
+ghost use Rattle.um_types.specs.TypeMachine.{note_ends, own_act};
+ghost use Rattle.um_types.specs.Standing.{type_stands};
 ghost use Rattle.um_types.specs.TypeMachine.{type_finish, type_least, owner_height, machine_of_types};
 ghost use Rattle.um_types.specs.TypeView.{operand_type, view_owner, type_state, IsLow};
 ghost use Rattle.um_types.specs.NoteView.{note_state};
@@ -44,6 +46,55 @@ fn no_type(owner: Owner) -> Option<RawType>
     None
 }
 
+// A token where a type is wanted.
+fn can_begin(kind: &Kind) -> bool
+    ensures { (depth at : ℕ) → result ≡ type_stands (type_begin depth kind.now at) }
+{
+    match kind {
+        Kind::Name(_) | Kind::Word(Keyword::Num) | Kind::Word(Keyword::Bool) => true,
+        Kind::Sign(Symbol::LeftParen) => true,
+        _ => false,
+    }
+}
+
+// Whether angle brackets may open after this type.
+fn has_owner(ty: &RawType) -> bool
+    ensures { result ≡ is_some (angle_owner (type_syntax ty.now)) }
+{
+    match ty {
+        RawType::Num(None) => true,
+        RawType::Name(_, _, notes) => notes.items.is_empty(),
+        RawType::Num(Some(_)) | RawType::Bool | RawType::List(_) | RawType::Bracket(_) => false,
+    }
+}
+
+// A token after a type.
+fn can_follow(depth: u32, operand: &TypeOperand, kind: &Kind) -> bool
+    ensures { result ≡ type_stands (type_after depth (operand_type operand.now) kind.now) }
+{
+    match kind {
+        Kind::Word(Keyword::List) => true,
+        Kind::Sign(Symbol::RightParen) => depth != 0,
+        Kind::Sign(Symbol::Less) => has_owner(&operand.ty),
+        _ => false,
+    }
+}
+
+// A token after a note of this.
+fn can_end_note(owner: &Owner, kind: &Kind) -> bool
+    ensures { (depth : ℕ) (n : NoteSyntax) → result
+        ≡ type_stands (note_end depth (view_owner owner.now) n kind.now) }
+{
+    match kind {
+        Kind::Sign(Symbol::Greater) => true,
+        Kind::Sign(Symbol::Comma) => match owner {
+            Owner::Num => false,
+            Owner::Name(_, _, _) => true,
+        },
+        _ => false,
+    }
+}
+
 impl TypeReader {
     /// No token was read yet.
     pub fn new() -> TypeReader
@@ -62,6 +113,29 @@ impl TypeReader {
     {
         self.depth = 0;
         self.put(TypeFocus::Empty);
+    }
+
+    /// Whether the type text goes on with a token of this kind, which isn't taken.
+    pub fn can_take(&self, kind: &Kind) -> bool
+        ensures { (at : ℕ) → result ≡ type_stands (type_act (type_state self.now) kind.now at) }
+    {
+        match &self.focus {
+            TypeFocus::Empty => can_begin(kind),
+            TypeFocus::Full(operand) => can_follow(self.depth, operand, kind),
+            TypeFocus::Note(owner) => {
+                self.note.can_take(kind) || (self.note.is_whole() && can_end_note(owner, kind))
+            }
+        }
+    }
+
+    /// Whether the tokens that were taken are a type text.
+    pub fn is_whole(&self) -> bool
+        ensures { result ≡ is_some (type_finish (type_state self.now)) }
+    {
+        match &self.focus {
+            TypeFocus::Full(_) => self.depth == 0,
+            TypeFocus::Empty | TypeFocus::Note(_) => false,
+        }
     }
 
     /// One token more, which stays as it was if it is refused.

@@ -4,6 +4,7 @@ pub mod UnitLaws
 pub mod UnitHeights
 mod UnitOperands
 mod UnitEnds
+mod Standing
 mod UnitCounts
 pub mod UnitCut
 pub mod UnitNested

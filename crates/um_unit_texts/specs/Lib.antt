@@ -8,4 +8,5 @@ pub mod UnitMachine
 pub mod UnitLeast
 pub mod UnitCount
 pub mod UnitFrames
+pub mod Standing
 pub mod UnitView

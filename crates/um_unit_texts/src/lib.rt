@@ -16,6 +16,7 @@ mod unit_frames;
 mod unit_least;
 mod unit_machine;
 mod unit_operand;
+mod unit_query;
 mod unit_reader;
 
 pub use height::{GREATEST_HEIGHT, TOO_HIGH, counted_sum, higher, one_higher};
@@ -23,4 +24,5 @@ pub use name::name_of;
 pub use places::place;
 pub use unit_machine::{is_foreign, written_power};
 pub use unit_operand::Operand;
+pub use unit_query::{can_begin, can_follow};
 pub use unit_reader::UnitReader;

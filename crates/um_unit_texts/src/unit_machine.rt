@@ -57,8 +57,8 @@ fn ended(alloc: Global, frames: &mut Frames, operand: Operand) -> Result<Operand
     Ok(operand)
 }
 
-// Whether a unit text begins here.
-fn opens(frames: &Frames) -> bool
+/// Whether a unit text begins here.
+pub fn opens(frames: &Frames) -> bool
     ensures { result ≡ opens (frames_of frames.now) }
 {
     match frames.entries.last() {
@@ -241,8 +241,8 @@ fn close_after(
     }
 }
 
-// Whether it is an atom.
-fn is_atom(operand: &Operand) -> bool
+/// Whether it is an atom.
+pub fn is_atom(operand: &Operand) -> bool
     ensures { result ≡ is_atom (operand_syntax operand.now) }
 {
     match &operand.unit {

@@ -8,10 +8,11 @@ use crate::unit_frames::Frames;
 use crate::unit_least::is_low;
 use crate::unit_machine::{finish, is_foreign, step};
 use crate::unit_operand::Operand;
+use crate::unit_query::{can_take, is_whole};
 use std::alloc::{AllocError, Global};
 use std::mem;
 use um_reader::{Reader, Taken};
-use um_syntax::Token;
+use um_syntax::{Kind, Token};
 use um_tree::RawUnit;
 
 /// A unit text that has begun: what is open around the next part, and what stands inside it.
@@ -31,12 +32,14 @@ fn unit_of(operand: Option<Operand>) -> Option<RawUnit>
 }
 
 impl UnitReader {
-    ghost use Rattle.std.specs.Prelude.{[], IfOk, option_map};
+    ghost use Rattle.std.specs.Prelude.{ℕ, [], IfOk, is_some, option_map};
     ghost use Rattle.um_tree.specs.RawTree.{unit_syntax};
     ghost use Rattle.um_reader.specs.Takes.{Takes};
     ghost use Rattle.um_unit_texts.specs.UnitStops.{greatest_height};
-    ghost use Rattle.um_unit_texts.specs.UnitMachine.{Have, finish};
+    ghost use Rattle.um_unit_texts.specs.UnitTokens.{unit_token};
+    ghost use Rattle.um_unit_texts.specs.UnitMachine.{Have, act, finish};
     ghost use Rattle.um_unit_texts.specs.UnitLeast.{machine_of_units};
+    ghost use Rattle.um_unit_texts.specs.Standing.{unit_stands};
     ghost use Rattle.um_unit_texts.specs.UnitView.{unit_state};
 
     /// An atom was read.
@@ -47,6 +50,20 @@ impl UnitReader {
             frames: Frames::new(alloc),
             focus: Focus::Full(atom),
         }
+    }
+
+    /// Whether the unit text goes on with a token of this kind, which isn't taken.
+    pub fn can_take(&self, kind: &Kind) -> bool
+        ensures { (at : ℕ) → result ≡ unit_stands (act (unit_state self.now) (unit_token kind.now) at) }
+    {
+        can_take(&self.frames, &self.focus, kind)
+    }
+
+    /// Whether the tokens that were taken are a unit text.
+    pub fn is_whole(&self) -> bool
+        ensures { result ≡ is_some (finish (unit_state self.now)) }
+    {
+        is_whole(&self.frames, &self.focus)
     }
 
     /// The unit text of the tokens that were taken, if they are one, out of the reader.
