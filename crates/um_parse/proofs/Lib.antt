@@ -16,5 +16,6 @@ mod LimitLaws
 mod ProgramSteps
 mod Front
 mod ProgramParsed
+mod Prefixes
 pub mod Ends
 mod EachList

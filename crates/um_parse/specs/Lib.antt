@@ -8,6 +8,7 @@ pub mod Laws
 -- what mirrors the code: the machine of programs, and what the readers hold
 pub mod ProgramLeast
 pub mod ReaderStates
+pub mod Prefixes
 pub mod ProgramNodes
 pub mod Spaced
 pub mod LimitsPassed

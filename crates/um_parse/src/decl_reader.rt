@@ -1,5 +1,5 @@
 // A declaration that is read one token at a time. Functions are read in place, and records in a box.
-ghost use Rattle.std.specs.Prelude.{◌≡◌, ◌≤◌, false, [], IfOk, Some, None, option_map};
+ghost use Rattle.std.specs.Prelude.{◌≡◌, ℕ, ◌≤◌, false, [], IfOk, Some, None, is_some, option_map};
 ghost use Rattle.um_tree.specs.RawTree.{unit_syntax, base_syntax, decl_syntax};
 ghost use Rattle.um_reader.specs.Takes.{Gives, Takes};
 ghost use Rattle.um_unit_texts.specs.UnitStops.{greatest_height};
@@ -8,13 +8,14 @@ ghost use Rattle.um_unit_texts.specs.UnitView.{unit_state};
 ghost use Rattle.um_forms.specs.ExprTokens.{expr_token};
 ghost use Rattle.um_decls.specs.DeclMachine.{Expects, DeclBegin, MeasureName, RecordName, LetName, RecName};
 ghost use Rattle.um_decls.specs.DeclMachine.{FunctionVars, HaveBase, InShort, NoDecl, take_expected, base_after};
-ghost use Rattle.um_decls.specs.DeclMachine.{short_found, decl_finish, at_start};
+ghost use Rattle.um_decls.specs.DeclMachine.{short_found, decl_act, decl_finish, at_start};
+ghost use Rattle.um_decls.specs.DeclStanding.{decl_stands};
 ghost use Rattle.um_decls.specs.DeclLeast.{decl_least, machine_of_declarations};
 ghost use Rattle.um_decls.specs.DeclTakes.{Ends};
 ghost use Rattle.um_decls.specs.DeclTokens.{BeginsAlike, IfStops};
 ghost use Rattle.um_parse.specs.ReaderStates.{view_fixed, view_expected, place_state, reader_state, base_step};
 
-use crate::decl_begin::after_token;
+use crate::decl_begin::{after_token, begins_short, can_take_at};
 use crate::decl_prefix::{DeclExpected, FixedToken};
 use std::alloc::{AllocError, Global};
 use std::mem;
@@ -126,6 +127,35 @@ impl DeclReader {
         ensures stopped { reader_state self.new ≡ NoDecl }
     {
         self.put(DeclPlace::Nothing);
+    }
+
+    /// Whether the declaration goes on with a token of this kind, glued to the one before or not. It isn't taken, and
+    /// no height is asked for.
+    pub fn can_take(&self, kind: &Kind, glued: bool) -> bool
+        ensures { (p : ℕ) → result
+            ≡ decl_stands (decl_act (reader_state self.now) (expr_token kind.now) p glued kind.now) }
+    {
+        match &self.place {
+            DeclPlace::Function => self.function.can_take(kind, glued),
+            DeclPlace::Record(record) => record.can_take(kind),
+            DeclPlace::Short(_, _, unit) => unit.can_take(kind),
+            DeclPlace::Nothing => false,
+            DeclPlace::At(expected) => can_take_at(*expected, kind),
+            DeclPlace::Base(_, _) => begins_short(kind),
+        }
+    }
+
+    /// Whether the tokens that were taken are a declaration.
+    pub fn is_whole(&self) -> bool
+        ensures { result ≡ is_some (decl_finish (reader_state self.now)) }
+    {
+        match &self.place {
+            DeclPlace::Function => self.function.is_whole(),
+            DeclPlace::Record(record) => record.is_whole(),
+            DeclPlace::Short(_, _, unit) => unit.is_whole(),
+            DeclPlace::Nothing | DeclPlace::At(_) => false,
+            DeclPlace::Base(_, _) => true,
+        }
     }
 
     /// One token more. A token that is refused still begins a declaration as it did, though its letters may be gone.

@@ -12,8 +12,10 @@ mod decl_reader;
 pub mod laws;
 mod limits;
 mod places;
+mod prefix;
 mod program_parse;
 mod program_reader;
 
+pub use prefix::Prefix;
 pub use program_parse::{parse, parse_tokens};
 pub use um_types::{LimitKind, ParseStop, parse_types, parse_unit};

@@ -3,10 +3,11 @@ ghost use Rattle.std.specs.Prelude.{◌≡◌, ◌≤◌, IfOk, Some, None, cond
 ghost use Rattle.um_tree.specs.RawTree.{decl_syntax, program_syntax};
 ghost use Rattle.um_decls.specs.DeclMachine.{program_found};
 
+use crate::decl_begin::begins_declaration;
 use crate::decl_reader::DeclReader;
 use std::alloc::{AllocError, Global};
 use um_reader::{Reader, Taken};
-use um_syntax::Token;
+use um_syntax::{Kind, Token};
 use um_tree::{RawDecl, RawProgram};
 
 /// A program that has begun: the declarations before the last one, and that one.
@@ -29,15 +30,33 @@ fn program_of(decls: Vec<RawDecl>, whole: bool) -> Option<RawProgram>
 }
 
 impl ProgramReader {
-    ghost use Rattle.std.specs.Prelude.{true};
+    ghost use Rattle.std.specs.Prelude.{is_some, true};
     ghost use Rattle.um_tree.specs.RawTree.{DeclSyntax};
     ghost use Rattle.um_reader.specs.Takes.{Gives, Takes};
     ghost use Rattle.um_unit_texts.specs.UnitStops.{greatest_height};
     ghost use Rattle.um_decls.specs.DeclMachine.{DeclBegin, Expects, ProgramState, decl_step, decl_finish, next_decl};
-    ghost use Rattle.um_decls.specs.DeclMachine.{at_start, program_finish};
+    ghost use Rattle.um_decls.specs.DeclMachine.{at_start, program_finish, program_step};
+    ghost use Rattle.um_decls.specs.DeclStanding.{program_stands};
     ghost use Rattle.um_parse.specs.ProgramHeights.{decl_height, program_height};
     ghost use Rattle.um_parse.specs.ProgramLeast.{program_least, machine_of_programs};
     ghost use Rattle.um_parse.specs.ReaderStates.{reader_state, program_state};
+
+    /// Whether the program goes on with a token of this kind, glued to the one before or not. It isn't taken, and no
+    /// height is asked for.
+    #[tactic(auto, using(crate::proofs::Prefixes::step_stands))]
+    pub fn can_take(&self, kind: &Kind, glued: bool) -> bool
+        ensures { (token : Token) → token.kind ≡ kind.now → token.glued ≡ glued
+            → result ≡ program_stands (program_step (program_state self.now) token) }
+    {
+        self.last.can_take(kind, glued) || (self.last.is_whole() && begins_declaration(kind))
+    }
+
+    /// Whether the tokens that were taken are a program.
+    pub fn is_whole(&self) -> bool
+        ensures { result ≡ is_some (program_finish (program_state self.now)) }
+    {
+        self.last.is_at_start() || self.last.is_whole()
+    }
 
     // The first token of a declaration.
     #[inline(never)]
