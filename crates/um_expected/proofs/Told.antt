@@ -12,7 +12,7 @@ use Rattle.um_expected.specs.Expected.{Place, CanStand, NumberCanStand, IsPower,
 use Rattle.um_expected.specs.Expected.{OneCanStand, AllOperatorsStand, IsExpected}
 use Rattle.um_expected.specs.Trials.{IsTried, number_told, whole_told, one_told}
 
-clash : false ≡ true → ⊥
+pub clash : false ≡ true → ⊥
 clash e = cc
 
 -- ---- a number by its value

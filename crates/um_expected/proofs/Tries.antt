@@ -12,26 +12,23 @@ use Rattle.um_expected.specs.Words.{operators}
 use Rattle.um_expected.proofs.WordLists.{chosen_step}
 
 -- all signs before can stand, and the next one
-pub signs_more : (p q : Place) (items : List Symbol) (i : ℕ) (d : Symbol) → i < length items → q ≡ p
-    → All (λ s. CanStand p (kind.Sign s)) (take i items) → CanStand q (kind.Sign (get_or items i d))
+pub signs_more : (p : Place) (items : List Symbol) (i : ℕ) (d : Symbol) → i < length items
+    → All (λ s. CanStand p (kind.Sign s)) (take i items) → CanStand p (kind.Sign (get_or items i d))
     → All (λ s. CanStand p (kind.Sign s)) (take (i + 1) items)
-signs_more p q items i d lt same before here =
+signs_more p items i d lt before here =
     subst (λ l. All (λ s. CanStand p (kind.Sign s)) l) (sym (take_more items i d lt))
-    (All-push (λ s. CanStand p (kind.Sign s)) (take i items) (get_or items i d) before
-    (subst (λ r. CanStand r (kind.Sign (get_or items i d))) same here))
+    (All-push (λ s. CanStand p (kind.Sign s)) (take i items) (get_or items i d) before here)
 
 -- a sign that can't stand is one of the operators
-pub sign_refused : (p q : Place) (items : List Symbol) (i : ℕ) (d : Symbol) (b : Bool) → items ≡ operators → i < length items → q ≡ p → b ≡ false
-    → Decides b (CanStand q (kind.Sign (get_or items i d))) → AllOperatorsStand p → false ≡ true
-sign_refused p q items i d b e lt same fails here all =
-    sym fails ∙ here.1 (subst (λ r. CanStand r (kind.Sign (get_or items i d))) (sym same)
-    (subst (λ l. All (λ s. CanStand p (kind.Sign s)) l) (sym e) all i d lt))
+pub sign_refused : (p : Place) (items : List Symbol) (i : ℕ) (d : Symbol) (b : Bool) → items ≡ operators → i < length items → b ≡ false
+    → Decides b (CanStand p (kind.Sign (get_or items i d))) → AllOperatorsStand p → false ≡ true
+sign_refused p items i d b e lt fails here all =
+    sym fails ∙ here.1 (subst (λ l. All (λ s. CanStand p (kind.Sign s)) l) (sym e) all i d lt)
 
 -- the words told so far, and the next one
-pub words_more : (p q : Place) (items : List Word) (i : ℕ) (d : Word) (old new : List Word) (b : Bool) → i < length items → q ≡ p
-    → AreChosen (IsExpected p) (take i items) old → Decides b (IsExpected q (get_or items i d))
+pub words_more : (p : Place) (items : List Word) (i : ℕ) (d : Word) (old new : List Word) (b : Bool) → i < length items
+    → AreChosen (IsExpected p) (take i items) old → Decides b (IsExpected p (get_or items i d))
     → new ≡ cond b (old ++ get_or items i d ∷ []) old → AreChosen (IsExpected p) (take (i + 1) items) new
-words_more p q items i d old new b lt same before here e =
+words_more p items i d old new b lt before here e =
     subst (λ l. AreChosen (IsExpected p) l new) (sym (take_more items i d lt))
-    (chosen_step (IsExpected p) (take i items) old new (get_or items i d) b before
-    (subst (λ r. Decides b (IsExpected r (get_or items i d))) same here) e)
+    (chosen_step (IsExpected p) (take i items) old new (get_or items i d) b before here e)

@@ -9,7 +9,6 @@
 #![tactic(auto)]
 
 pub mod laws;
-mod part;
 mod tell;
 mod trial;
 mod word;

@@ -12,12 +12,11 @@ ghost use Rattle.um_expected.specs.declared.word.Word.TheVariants as word;
 ghost use Rattle.um_expected.specs.Trials.{IsTried, number_told, one_told, whole_told};
 ghost use Rattle.um_expected.specs.Words.{is_operator};
 
-use crate::part::last_part;
 use crate::trial::Trial;
 use crate::word::{Word, is_operator, operators, words};
 use std::alloc::{AllocError, Global};
 use um_frac::Frac;
-use um_parse::laws::declarations_are_cut;
+use um_parse::Prefix;
 use um_syntax::{Kind, Letters, Symbol, Token};
 
 /// What is tried first: whether a number at the place is a power, and whether 5/2, 2, the digit 1 and all operators can
@@ -35,8 +34,7 @@ struct Tried {
 ///
 /// `before` are the tokens before the place, which begin a program within the heights, `at` is where it is, and `glued`
 /// says whether a token there is glued; the end isn't. A word is told exactly if its token at the place goes on
-/// beginning a program. The tokens are read once, and those from the last declaration on some 60 times. Want of memory
-/// is the one error.
+/// beginning a program. The tokens are read once. Want of memory is the one error.
 ///
 /// The words are those after viable prefixes, as in Knuth, On the Translation of Languages from Left to Right.
 pub fn expected(
@@ -51,19 +49,25 @@ pub fn expected(
     ensures expected { IfOk result (λ told.
         AreExpected (record { before = before.items; at = at; glued = glued }) told.items) }
 {
-    declarations_are_cut();
-    let part = last_part(alloc, before, at)?;
-    let mut trial = Trial::new(part, at, glued);
-    let told = told_at(alloc, &mut trial);
-    drop(trial);
-    told
+    match Prefix::read(alloc, &before) {
+        Ok(prefix) => {
+            let trial = Trial::new(before, prefix, at, glued);
+            let told = told_at(alloc, &trial);
+            drop(trial);
+            told
+        }
+        Err(error) => {
+            drop(before);
+            Err(error)
+        }
+    }
 }
 
 /// The words that are told.
-fn told_at(alloc: Global, trial: &mut Trial) -> Result<Vec<Word>, AllocError>
-    ensures { IfOk result (λ told. AreExpected trial.old told.items) }
+fn told_at(alloc: Global, trial: &Trial) -> Result<Vec<Word>, AllocError>
+    ensures { IfOk result (λ told. AreExpected trial.now told.items) }
 {
-    let tried = try_first(alloc, trial)?;
+    let tried = try_first(trial);
     let mut told = Vec::new(alloc);
     for word in words() {
         let stands = is_told(alloc, trial, tried, *word)?;
@@ -83,25 +87,16 @@ fn push_if(told: &mut Vec<Word>, stands: bool, word: Word) -> Result<(), AllocEr
 }
 
 /// What is tried before any word is told.
-fn try_first(alloc: Global, trial: &mut Trial) -> Result<Tried, AllocError>
-    ensures same { trial.new ≡ trial.old }
-    ensures tried { IfOk result (λ tried. IsTried trial.old tried) }
+fn try_first(trial: &Trial) -> Tried
+    ensures { IsTried trial.now result }
 {
-    let power = is_power_place(trial.before());
-    let five_halves = Frac::of_parts(5, 2);
-    let fraction = takes_number(alloc, trial, five_halves, false, false)?;
-    let whole_two = Frac::of_parts(2, 1);
-    let two = takes_number(alloc, trial, whole_two, true, false)?;
-    let whole_one = Frac::of_parts(1, 1);
-    let one = takes_number(alloc, trial, whole_one, true, true)?;
-    let operators = takes_operators(alloc, trial)?;
-    Ok(Tried {
-        power,
-        fraction,
-        two,
-        one,
-        operators,
-    })
+    Tried {
+        power: is_power_place(trial.before()),
+        fraction: takes_number(trial, Frac::of_parts(5, 2), false, false),
+        two: takes_number(trial, Frac::of_parts(2, 1), true, false),
+        one: takes_number(trial, Frac::of_parts(1, 1), true, true),
+        operators: takes_operators(trial),
+    }
 }
 
 /// Whether a number after the tokens is a power.
@@ -143,79 +138,71 @@ fn is_minus(token: Option<&Token>) -> bool
 }
 
 /// Whether a number of this value can stand at the place: in digits alone or not, and as the one digit 1 or not.
-fn takes_number(
-    alloc: Global,
-    trial: &mut Trial,
-    value: Option<Frac>,
-    digits: bool,
-    one: bool,
-) -> Result<bool, AllocError>
-    ensures same { trial.new ≡ trial.old }
-    ensures takes { (n d : ℤ) → value ≡ reduced n d
-        → IfOk result (λ stands. Decides stands (NumberCanStand trial.old n d digits one)) }
+fn takes_number(trial: &Trial, value: Option<Frac>, digits: bool, one: bool) -> bool
+    ensures { (n d : ℤ) → value ≡ reduced n d
+        → Decides result (NumberCanStand trial.now n d digits one) }
 {
     match value {
-        Some(number) => trial.takes(
-            alloc,
-            Kind::Number {
-                value: number,
-                digits,
-                one,
-            },
-        ),
-        None => Ok(false),
+        Some(number) => trial.takes(&Kind::Number {
+            value: number,
+            digits,
+            one,
+        }),
+        None => false,
     }
 }
 
 /// Whether each operator can stand at the place.
-fn takes_operators(alloc: Global, trial: &mut Trial) -> Result<bool, AllocError>
-    ensures same { trial.new ≡ trial.old }
-    ensures takes { IfOk result (λ all. Decides all (AllOperatorsStand trial.old)) }
+fn takes_operators(trial: &Trial) -> bool
+    ensures { Decides result (AllOperatorsStand trial.now) }
 {
     for operator in operators() {
-        if !trial.takes(alloc, Kind::Sign(*operator))? {
-            return Ok(false);
+        if !trial.takes(&Kind::Sign(*operator)) {
+            return false;
         }
     }
-    Ok(true)
+    true
 }
 
 /// Whether the word is told, after what was tried first.
-fn is_told(alloc: Global, trial: &mut Trial, tried: Tried, word: Word) -> Result<bool, AllocError>
-    requires tried { IsTried trial.old tried }
-    ensures same { trial.new ≡ trial.old }
-    ensures told { IfOk result (λ told. Decides told (IsExpected trial.old word)) }
+fn is_told(alloc: Global, trial: &Trial, tried: Tried, word: Word) -> Result<bool, AllocError>
+    requires tried { IsTried trial.now tried }
+    ensures { IfOk result (λ told. Decides told (IsExpected trial.now word)) }
 {
     match word {
         Word::Name => takes_name(alloc, trial),
         Word::Variable => takes_variable(alloc, trial),
-        Word::Hole => trial.takes(alloc, Kind::Hole),
+        Word::Hole => Ok(trial.takes(&Kind::Hole)),
         Word::Number => Ok(is_number_told(tried)),
         Word::Whole => Ok(is_whole_told(tried)),
         Word::One => Ok(is_one_told(tried)),
-        Word::Keyword(keyword) => trial.takes(alloc, Kind::Word(keyword)),
+        Word::Keyword(keyword) => Ok(trial.takes(&Kind::Word(keyword))),
         Word::Operator => Ok(tried.operators),
-        Word::Sign(sign) => is_sign_told(alloc, trial, tried, sign),
-        Word::End => trial.is_whole(alloc),
+        Word::Sign(sign) => Ok(is_sign_told(trial, tried, sign)),
+        Word::End => Ok(trial.is_whole()),
     }
 }
 
 /// Whether a name can stand at the place.
-fn takes_name(alloc: Global, trial: &mut Trial) -> Result<bool, AllocError>
-    ensures same { trial.new ≡ trial.old }
-    ensures told { IfOk result (λ told. Decides told (IsExpected trial.old word.Name)) }
+fn takes_name(alloc: Global, trial: &Trial) -> Result<bool, AllocError>
+    ensures { IfOk result (λ told. Decides told (IsExpected trial.now word.Name)) }
 {
     let letters = Letters::from_slice(alloc, b"a")?;
-    trial.takes(alloc, Kind::Name(letters))
+    let kind = Kind::Name(letters);
+    let stands = trial.takes(&kind);
+    drop(kind);
+    Ok(stands)
 }
 
 /// Whether a variable can stand at the place.
-fn takes_variable(alloc: Global, trial: &mut Trial) -> Result<bool, AllocError>
-    ensures same { trial.new ≡ trial.old }
-    ensures told { IfOk result (λ told. Decides told (IsExpected trial.old word.Variable)) }
+fn takes_variable(alloc: Global, trial: &Trial) -> Result<bool, AllocError>
+    ensures { IfOk result (λ told. Decides told (IsExpected trial.now word.Variable)) }
 {
     let letters = Letters::from_slice(alloc, b"a")?;
-    trial.takes(alloc, Kind::Var(letters))
+    let kind = Kind::Var(letters);
+    let stands = trial.takes(&kind);
+    drop(kind);
+    Ok(stands)
 }
 
 /// Whether any number is told.
@@ -240,20 +227,14 @@ fn is_one_told(tried: Tried) -> bool
 }
 
 /// Whether the sign is told by itself.
-fn is_sign_told(
-    alloc: Global,
-    trial: &mut Trial,
-    tried: Tried,
-    sign: Symbol,
-) -> Result<bool, AllocError>
-    requires tried { IsTried trial.old tried }
-    ensures same { trial.new ≡ trial.old }
-    ensures told { IfOk result (λ told. Decides told (IsExpected trial.old (word.Sign sign))) }
+fn is_sign_told(trial: &Trial, tried: Tried, sign: Symbol) -> bool
+    requires tried { IsTried trial.now tried }
+    ensures { Decides result (IsExpected trial.now (word.Sign sign)) }
 {
     if is_among_operators(tried.operators, sign) {
-        return Ok(false);
+        return false;
     }
-    trial.takes(alloc, Kind::Sign(sign))
+    trial.takes(&Kind::Sign(sign))
 }
 
 /// Whether the sign is an operator and all operators stand, so that they are told in one word.
