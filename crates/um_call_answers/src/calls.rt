@@ -30,6 +30,15 @@ const TEXT_LIMIT: usize = 1_048_576;
 /// The longest word of a call, in bytes.
 const WORD_LIMIT: usize = 1_048_576;
 
+/// A compiled program with the tables of its names, which are made once for many calls, and the budget of each call.
+#[derive(Clone, Copy)]
+struct Prepared<'a> {
+    budget: u64,
+    program: &'a Compiled<'a>,
+    callable: &'a Callable<'a>,
+    ghost small: { budget ≤ 10000000 },
+}
+
 /// The answer to `calls` about the bytes that were read. The text before the first line that is `---` alone is a
 /// program, and each line after it is a call by its words, which stand between tabs.
 ///
@@ -96,27 +105,26 @@ fn named_answers(
     let abbreviations = checked.abbreviations();
     let tables = tables_of(alloc, shaped, abbreviations)?;
     let callable = callable_of(shaped, schemes, abbreviations, &tables);
-    let text = line_answers(alloc, budget, calls, program, &callable);
+    let prepared = Prepared {
+        budget,
+        program,
+        callable: &callable,
+    };
+    let text = line_answers(alloc, calls, &prepared);
     drop(tables);
     text
 }
 
 /// The answers to the lines, one after another.
-fn line_answers(
-    alloc: Global,
-    budget: u64,
-    calls: &[u8],
-    program: &Compiled,
-    callable: &Callable,
-) -> Result<Vec<u8>, AllocError>
-    requires small { budget ≤ 10000000 }
-    requires callable { IsCallableIn program.now callable.now }
-    ensures { IfOk result (λ text. AreLineAnswers budget (checked_tree program.now) (call_lines calls.now) text.items) }
+fn line_answers(alloc: Global, calls: &[u8], prepared: &Prepared) -> Result<Vec<u8>, AllocError>
+    requires { IsCallableIn prepared.now.program.now prepared.now.callable.now }
+    ensures { IfOk result (λ text. AreLineAnswers prepared.now.budget (checked_tree prepared.now.program.now)
+        (call_lines calls.now) text.items) }
 {
     let mut text = Vec::new(alloc);
     let mut rest = calls;
     'lines: while let Some((line, after)) = next_line(rest) {
-        let reply = answer_line(alloc, budget, line, program, callable)?;
+        let reply = answer_line(alloc, line, prepared)?;
         text.extend_from_slice(&reply.text)?;
         rest = after;
     }
@@ -124,70 +132,51 @@ fn line_answers(
 }
 
 /// The answer to a line.
-fn answer_line(
-    alloc: Global,
-    budget: u64,
-    line: &[u8],
-    program: &Compiled,
-    callable: &Callable,
-) -> Answer
-    requires small { budget ≤ 10000000 }
-    requires callable { IsCallableIn program.now callable.now }
-    ensures { IfOk result (λ reply. IsLineAnswer budget (checked_tree program.now) line.now reply.text.items) }
+fn answer_line(alloc: Global, line: &[u8], prepared: &Prepared) -> Answer
+    requires { IsCallableIn prepared.now.program.now prepared.now.callable.now }
+    ensures { IfOk result (λ reply. IsLineAnswer prepared.now.budget (checked_tree prepared.now.program.now)
+        line.now reply.text.items) }
 {
     if line.is_empty() {
         return reply_line(alloc, "", Status::Done);
     }
     match str::from_utf8(line) {
-        Ok(line) => answer_words(alloc, budget, line, program, callable),
+        Ok(line) => answer_words(alloc, line, prepared),
         Err(_) => reply_line(alloc, "error 1: usage", Status::Usage),
     }
 }
 
 /// The answer to the words of a line.
-fn answer_words(
-    alloc: Global,
-    budget: u64,
-    line: &str,
-    program: &Compiled,
-    callable: &Callable,
-) -> Answer
-    requires small { budget ≤ 10000000 }
-    requires callable { IsCallableIn program.now callable.now }
+fn answer_words(alloc: Global, line: &str, prepared: &Prepared) -> Answer
+    requires { IsCallableIn prepared.now.program.now prepared.now.callable.now }
     ensures { IfOk result (λ reply. Cases (IsTrue (are_short_words (words_in line.now)))
-        (IsRunText budget (checked_tree program.now) (words_in line.now) reply.text.items)
+        (IsRunText prepared.now.budget (checked_tree prepared.now.program.now) (words_in line.now) reply.text.items)
         (reply.text.items ≡ line_with (codes "error 1: usage"))) }
 {
     let words = words_of(alloc, line)?;
-    let answer = answer_call_by(alloc, budget, &words, program, callable);
+    let answer = answer_call_by(alloc, &words, prepared);
     drop(words);
     answer
 }
 
 /// The answer to a call by its words.
-fn answer_call_by(
-    alloc: Global,
-    budget: u64,
-    words: &[String],
-    program: &Compiled,
-    callable: &Callable,
-) -> Answer
-    requires small { budget ≤ 10000000 }
-    requires callable { IsCallableIn program.now callable.now }
+fn answer_call_by(alloc: Global, words: &[String], prepared: &Prepared) -> Answer
+    requires callable { IsCallableIn prepared.now.program.now prepared.now.callable.now }
     requires some { 0 < length words.now }
     ensures { IfOk result (λ reply. Cases (IsTrue (are_short_words (map string_bytes words.now)))
-        (IsRunText budget (checked_tree program.now) (map string_bytes words.now) reply.text.items)
+        (IsRunText prepared.now.budget (checked_tree prepared.now.program.now) (map string_bytes words.now)
+        reply.text.items)
         (reply.text.items ≡ line_with (codes "error 1: usage"))) }
 {
     if !are_short(words) {
         return reply_line(alloc, "error 1: usage", Status::Usage);
     }
     let call = CallWords {
-        budget,
+        budget: prepared.budget,
         name: words[0].as_str(),
         texts: &words[1..],
     };
-    answer_call_of(alloc, &call, program, callable)
+    answer_call_of(alloc, &call, prepared.program, prepared.callable)
 }
 
 /// Whether each word is at most 1,048,576 bytes long.

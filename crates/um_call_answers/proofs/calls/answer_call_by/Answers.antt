@@ -12,7 +12,7 @@ use Rattle.um_call_answers.proofs.calls.answer_call_by.Goals as goal
 
 pub returns : goal.returns
 returns c =
-    let words = c.args.words.now in let budget = c.args.budget in let checked = checked_tree c.args.program.now in
+    let words = c.args.words.now in let budget = c.args.prepared.now.budget in let checked = checked_tree c.args.prepared.now.program.now in
     let short = sym c.are_short.ensures ∙ c.if-not-are_short.false in
     let left = length-drop 1 words in
     let rest = take (length words - 1) (drop 1 words) in

@@ -10,7 +10,7 @@ use Rattle.um_call_answers.proofs.calls.answer_line.Goals as goal
 
 pub returns-then-is_empty : goal.returns-then-is_empty
 returns-then-is_empty c =
-    let checked = checked_tree c.args.program.now in let budget = c.args.budget in let bytes = c.args.line.now in
+    let checked = checked_tree c.args.prepared.now.program.now in let budget = c.args.prepared.now.budget in let bytes = c.args.line.now in
     let none = none_of bytes (sym c.is_empty.ensures ∙ c.if-is_empty.true) in
     IfOk-weaker c.reply_line.result (λ reply. IsReply reply.text.items reply.status (line []) Done)
     (λ reply. IsLineAnswer budget checked bytes reply.text.items)
@@ -19,7 +19,7 @@ returns-then-is_empty c =
 
 pub returns-in-Ok : goal.returns-in-Ok
 returns-in-Ok c =
-    let checked = checked_tree c.args.program.now in let budget = c.args.budget in let bytes = c.args.line.now in
+    let checked = checked_tree c.args.prepared.now.program.now in let budget = c.args.prepared.now.budget in let bytes = c.args.line.now in
     let some = some_of bytes (sym c.is_empty.ensures ∙ c.if-is_empty.false) in
     IfOk-weaker c.answer_words.result
     (λ reply. Cases (IsTrue (are_short (words_in c.in-Ok.line.now))) (IsRunText budget checked (words_in c.in-Ok.line.now) reply.text.items) (reply.text.items ≡ line (codes "error 1: usage")))
@@ -29,7 +29,7 @@ returns-in-Ok c =
 
 pub returns-in-Err : goal.returns-in-Err
 returns-in-Err c =
-    let checked = checked_tree c.args.program.now in let budget = c.args.budget in let bytes = c.args.line.now in
+    let checked = checked_tree c.args.prepared.now.program.now in let budget = c.args.prepared.now.budget in let bytes = c.args.line.now in
     let some = some_of bytes (sym c.is_empty.ensures ∙ c.if-is_empty.false) in
     IfOk-weaker c.reply_line-in-Err.result (λ reply. IsReply reply.text.items reply.status (line (codes "error 1: usage")) Usage)
     (λ reply. IsLineAnswer budget checked bytes reply.text.items)

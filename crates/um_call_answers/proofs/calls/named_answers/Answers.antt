@@ -14,8 +14,8 @@ pub callable_of-callable-requires-clause-closed : goal.callable_of-callable-requ
 callable_of-callable-requires-clause-closed c =
     subst (λ (p : Program). AreClosedUnits (length (program_tree p).bases) c.abbreviations-abbreviations.result.now) (sym c.shaped-shaped.ensures.shaped) c.abbreviations-abbreviations.ensures.closed
 
-pub line_answers-text-requires-clause-callable : goal.line_answers-text-requires-clause-callable
-line_answers-text-requires-clause-callable c =
+pub line_answers-text-requires : goal.line_answers-text-requires
+line_answers-text-requires c =
     let callable = c.callable_of-callable.result in let known = c.callable_of-callable.ensures in
     let there : IsCallableIn c.args.checked.now callable = record {
       callable = known.callable;
