@@ -187,6 +187,7 @@ fn push_solved(
         (λ _. first_past (solved_nodes solver.now.units (placed_nodes nodes.old.items order.now)) ≡ None)
         (StopsAt (first_past (solved_nodes solver.now.units (placed_nodes nodes.old.items order.now)))) }
 {
+    types.reserve(order.len())?;
     for placed in order {
         let ty = mem::replace(&mut nodes[placed.node].ty, Ty::Bool);
         types.push(solved_type(alloc, solver, placed.at, ty)?)?;

@@ -24,12 +24,14 @@ same_item order i below =
     cc both
 
 pub loop-placed-init : goal.loop-placed-init
-loop-placed-init c = record {
-  count = refl;
-  left = λ j q low at. refl;
-  solved = sym (append-nil (map type_tree c.args.types.now.items));
-  range = refl;
-}
+loop-placed-init c =
+    let same : c.reserve.new.self.items ≡ c.args.types.now.items = search rules in
+    record {
+      count = refl;
+      left = λ j q low at. refl;
+      solved = ap (map type_tree) same ∙ sym (append-nil (map type_tree c.args.types.now.items));
+      range = refl;
+    }
 
 pub index_mut-requires : goal.index_mut-requires
 index_mut-requires c =
@@ -94,7 +96,7 @@ returns-in_err-solved_type-clause-range c =
     let taken : type_tree ty ≡ type_of old p.node = taken_type now old order i p n ty below is inside (get_or_read now p.node n inside c.index_mut.ensures.value n) c.replace-ty.ensures.value inv.left in
     let e = c.in_err-solved_type.field-0.0 in
     let one = subst (λ (u : TypeTree). StopsAt (first_past (solved_nodes us (node_at p.at u ∷ []))) e) taken c.in_err-solved_type.ensures.range in
-    let q = err_from_is_err_and c.from_residual.result c.from_residual.ensures.1 in
+    let q = err_from_is_err_and c.from_residual-in_err-solved_type.result c.from_residual-in_err-solved_type.ensures.1 in
     rw (q.1, q.2) (stops_among us (placed_nodes old (take i order)) (node_at p.at (type_of old p.node)) (placed_nodes old (drop (i + 1) order)) (placed_nodes old order) e (placed_split old order i p below is) inv.range one)
 
 pub returns-clause-solved : goal.returns-clause-solved
