@@ -65,10 +65,6 @@ TWICE = Bound(
 CALLS = Bound(
     "calls", "MiB of the calls", 1.5, 6,
     "a line takes time for its words and its run, however many names the program has; the answer is kept")
-READINGS = Bound(
-    "readings", "MiB of the text", 64 * 0.25, 300,
-    "the last declaration is read for each word that could stand at the place, some 50 and at most 62 times, and "
-    "twice more")
 CERTIFICATE = Bound(
     "certificate", "MiB of the answer", 1, 20,
     "forced: the answer names the equations that each unit comes from, which grow with the square of a function's "
@@ -77,7 +73,7 @@ STATED = Bound(
     "stated", "second or MiB that a limit states", 1.5, 1.25,
     "the limits are looked at each fiftieth of a second. Without a limit of time 10 s, without one of memory 4 GiB")
 
-BOUNDS = [TEXT, IMAGE, PAIRS, FULL, VALUE, ANSWER, NODES, TWICE, CALLS, READINGS, CERTIFICATE, STATED]
+BOUNDS = [TEXT, IMAGE, PAIRS, FULL, VALUE, ANSWER, NODES, TWICE, CALLS, CERTIFICATE, STATED]
 
 
 @dataclass(frozen=True)

@@ -8,7 +8,7 @@ from dataclasses import dataclass
 from pathlib import Path
 from types import ModuleType
 
-from hostile_bounds import (ANSWER, CALLS, CERTIFICATE, FULL, GIB, IMAGE, MEMORY, MIB, NODES, PAIRS, READINGS, STATED,
+from hostile_bounds import (ANSWER, CALLS, CERTIFICATE, FULL, GIB, IMAGE, MEMORY, MIB, NODES, PAIRS, STATED,
                             TEXT, TWICE, VALUE, Bound, Most, Stated)
 from repository import ROOT
 
@@ -276,14 +276,10 @@ LONG = "k" * (1 << 19)
 def refused() -> Iterator[Case]:
     """Texts that take long to explain."""
     workloads = script(ROOT / "bench" / "workloads.py")
-    read_again: list[tuple[str, Callable[[], bytes]]] = [
+    made: list[tuple[str, Callable[[], bytes]]] = [
         ("1 MiB of numbers, and a bracket too many", lambda: filled("let k = [1", "; 1", ")")),
         ("1 MiB of sums of names, and a bracket too many", lambda: filled("let k = [x", "+x;x", ")")),
         ("1 MiB of measures, and a bracket too many", lambda: filled("", "[<Measure>] type m\n", ")")),
-    ]
-    for title, make in read_again:
-        yield Case("refusals", title, ["explain"], make, READINGS)
-    made: list[tuple[str, Callable[[], bytes]]] = [
         ("a line of 1 MiB", lambda: filled("let k =", " ", "@")),
         ("1 MiB of tabs before the place", lambda: filled("", "\t", "@")),
         ("a name of 512 KiB that is nearly known", lambda: f"let {LONG} = 1\nlet j = {LONG[:-64]}\n".encode()),
