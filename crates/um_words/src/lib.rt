@@ -15,4 +15,4 @@ mod words;
 pub use operations::{Unary, apply};
 pub use stack::Stack;
 pub use stop::Stop;
-pub use words::{append, item, item_at};
+pub use words::{item, item_at, make_room};

@@ -37,9 +37,10 @@ impl Stack {
         Ok(Stack { store, words })
     }
 
-    /// The word that stands `k` words above the base.
+    /// The word that stands `k` words above the base. No fewer words than the base stand on the stack.
     #[inline(always)]
     pub fn word_at(&self, base: usize, k: usize) -> Option<Word>
+        requires { base ≤ length self.now.words.items }
         ensures { result ≡ slice_get self.now.words.items (base + k) }
     {
         word_above(&self.words, base, k)
@@ -48,12 +49,10 @@ impl Stack {
     /// Where the topmost `count` words begin, if so many stand above the base.
     #[inline(always)]
     pub fn place_of(&self, base: usize, count: usize) -> Option<usize>
+        requires { base ≤ length self.now.words.items }
         ensures { MatchOption result (length self.now.words.items < base + count)
             (λ at. (base ≤ at) × (at + count ≡ length self.now.words.items)) }
     {
-        if self.words.len() < base {
-            return None;
-        }
         if self.words.len() - base < count {
             return None;
         }
@@ -77,14 +76,12 @@ impl Stack {
     /// The two topmost words and the place of the lower one, if they stand above the base.
     #[inline(always)]
     pub fn two(&self, base: usize) -> Option<(usize, Word, Word)>
+        requires { base ≤ length self.now.words.items }
         ensures { MatchOption result (length self.now.words.items < base + 2)
             (λ r. (base ≤ r.0) × (r.0 + 2 ≡ length self.now.words.items)
             × (slice_get self.now.words.items r.0 ≡ Some r.1)
             × (slice_get self.now.words.items (r.0 + 1) ≡ Some r.2)) }
     {
-        if self.words.len() <= base {
-            return None;
-        }
         if self.words.len() - base < 2 {
             return None;
         }
@@ -109,7 +106,8 @@ impl Stack {
     /// The words from the place on go.
     #[inline(always)]
     pub fn cut(&mut self, at: usize)
-        ensures { (vs : List ValueTree) → Carries self.old vs → Carries self.new (take at vs) }
+        ensures values { (vs : List ValueTree) → Carries self.old vs → Carries self.new (take at vs) }
+        ensures size { at ≤ length self.old.words.items → length self.new.words.items ≡ at }
     {
         self.words.truncate(at);
     }
@@ -118,8 +116,9 @@ impl Stack {
     #[inline(always)]
     pub fn push(&mut self, word: Word) -> Result<(), Stop>
         requires { HasValue self.old.store word }
-        ensures { (vs : List ValueTree) (v : ValueTree) → Carries self.old vs → DenotesIn self.old.store word v
+        ensures value { (vs : List ValueTree) (v : ValueTree) → Carries self.old vs → DenotesIn self.old.store word v
             → Placed self.new vs (Ok v) result }
+        ensures size { length self.old.words.items ≤ length self.new.words.items }
     {
         match append(&mut self.words, word) {
             Ok(()) => Ok(()),
@@ -127,12 +126,28 @@ impl Stack {
         }
     }
 
+    /// One word more, if there is room for it. Takes no memory.
+    #[inline(always)]
+    pub fn push_if_room(&mut self, word: Word) -> Option<()>
+        requires { HasValue self.old.store word }
+        ensures value { (vs : List ValueTree) → Carries self.old vs → MatchOption result (Carries self.new vs)
+            (λ _. (v : ValueTree) → DenotesIn self.old.store word v → Carries self.new (vs ++ v ∷ [])) }
+        ensures size { length self.old.words.items ≤ length self.new.words.items }
+    {
+        if self.words.len() < self.words.capacity() {
+            self.words.push_reserved(word);
+            return Some(());
+        }
+        None
+    }
+
     /// The word in place of those from the place on.
     pub(crate) fn settle(&mut self, at: usize, word: Word) -> Result<(), Stop>
         requires place { at ≤ length self.old.words.items }
         requires value { HasValue self.old.store word }
-        ensures { (vs : List ValueTree) (v : ValueTree) → Carries self.old vs → DenotesIn self.old.store word v
+        ensures value { (vs : List ValueTree) (v : ValueTree) → Carries self.old vs → DenotesIn self.old.store word v
             → Placed self.new (take at vs) (Ok v) result }
+        ensures size { at ≤ length self.new.words.items }
     {
         match settle(&mut self.words, at, word) {
             Ok(()) => Ok(()),
@@ -145,8 +160,9 @@ impl Stack {
     pub fn replace(&mut self, at: usize, word: Word)
         requires place { at < length self.old.words.items }
         requires value { HasValue self.old.store word }
-        ensures { (vs : List ValueTree) (v : ValueTree) → Carries self.old vs → DenotesIn self.old.store word v
+        ensures value { (vs : List ValueTree) (v : ValueTree) → Carries self.old vs → DenotesIn self.old.store word v
             → Carries self.new (take at vs ++ v ∷ []) }
+        ensures size { at ≤ length self.new.words.items }
     {
         replace(&mut self.words, at, word);
     }
@@ -156,8 +172,9 @@ impl Stack {
     pub fn put(&mut self, at: usize, outcome: WordOutcome) -> Result<(), Stop>
         requires place { at < length self.old.words.items }
         requires value { (r : Result ValueTree MeaningStop) × IsOutcome self.old.store r outcome }
-        ensures { (vs : List ValueTree) (r : Result ValueTree MeaningStop) → Carries self.old vs
+        ensures value { (vs : List ValueTree) (r : Result ValueTree MeaningStop) → Carries self.old vs
             → IsOutcome self.old.store r outcome → Placed self.new (take at vs) r result }
+        ensures size { at ≤ length self.new.words.items }
     {
         match outcome {
             WordOutcome::Value(word) => {
@@ -174,8 +191,10 @@ impl Stack {
         requires place { at + 1 ≡ length self.old.words.items }
         requires first { HasValue self.old.store first }
         requires second { HasValue self.old.store second }
-        ensures { (vs : List ValueTree) (v u : ValueTree) → Carries self.old vs → DenotesIn self.old.store first v
-            → DenotesIn self.old.store second u → OnOk result (Carries self.new (take at vs ++ v ∷ u ∷ [])) }
+        ensures values { (vs : List ValueTree) (v u : ValueTree) → Carries self.old vs
+            → DenotesIn self.old.store first v → DenotesIn self.old.store second u
+            → OnOk result (Carries self.new (take at vs ++ v ∷ u ∷ [])) }
+        ensures size { at ≤ length self.new.words.items }
     {
         settle_two(&mut self.words, at, first, second)
     }
@@ -186,8 +205,9 @@ impl Stack {
         requires place { at ≤ length self.old.words.items }
         requires item { HasValue self.old.store x }
         requires list { HasValue self.old.store y }
-        ensures { (vs : List ValueTree) (v u : ValueTree) → Carries self.old vs → DenotesIn self.old.store x v
+        ensures value { (vs : List ValueTree) (v u : ValueTree) → Carries self.old vs → DenotesIn self.old.store x v
             → DenotesIn self.old.store y u → Placed self.new (take at vs) (longer v u) result }
+        ensures size { at ≤ length self.new.words.items }
     {
         match self.store.cons(x, y) {
             Ok(Some(word)) => self.settle(at, word),
@@ -200,8 +220,9 @@ impl Stack {
     #[inline(never)]
     pub fn make_list(&mut self, at: usize) -> Result<(), Stop>
         requires { at ≤ length self.old.words.items }
-        ensures { (vs : List ValueTree) → Carries self.old vs
+        ensures value { (vs : List ValueTree) → Carries self.old vs
             → Placed self.new (take at vs) (Ok (list_value (values_in_order (drop at vs)))) result }
+        ensures size { at ≤ length self.new.words.items }
     {
         match self.store.make_list(&self.words[at..]) {
             Ok(word) => self.settle(at, word),
@@ -213,8 +234,9 @@ impl Stack {
     #[inline(never)]
     pub fn make_record(&mut self, at: usize, record_number: u32) -> Result<(), Stop>
         requires { at ≤ length self.old.words.items }
-        ensures { (vs : List ValueTree) → Carries self.old vs
+        ensures value { (vs : List ValueTree) → Carries self.old vs
             → Placed self.new (take at vs) (Ok (record_value record_number (values_in_order (drop at vs)))) result }
+        ensures size { at ≤ length self.new.words.items }
     {
         match self.store.make_record(record_number, &self.words[at..]) {
             Ok(word) => self.settle(at, word),

@@ -1,6 +1,6 @@
 //! Words in a vector, as the stack has them.
 ghost use Rattle.std.specs.Prelude.{◌≡◌, ◌+◌, ◌<◌, ◌≤◌, Some, [], ◌∷◌, ◌++◌, length, map, take, slice_get, IfOk, OnOk};
-ghost use Rattle.std.specs.Prelude.{OnErr, OnSome};
+ghost use Rattle.std.specs.Prelude.{OnErr, OnSome, vec_len, vec_capacity};
 ghost use Rattle.um_tree.specs.ValueTree.{value_tree};
 ghost use Rattle.um_cells.specs.Stores.{AllDenote};
 
@@ -47,11 +47,9 @@ pub fn item_at<T>(items: &[T], k: usize) -> &T
 /// The word that stands `k` words above the base.
 #[inline(always)]
 pub(crate) fn word_above(words: &Vec<Word>, base: usize, k: usize) -> Option<Word>
+    requires { base ≤ length words.now.items }
     ensures { result ≡ slice_get words.now.items (base + k) }
 {
-    if words.len() < base {
-        return None;
-    }
     if k < words.len() - base {
         Some(words[base + k])
     } else {
@@ -61,7 +59,7 @@ pub(crate) fn word_above(words: &Vec<Word>, base: usize, k: usize) -> Option<Wor
 
 /// One item more. If memory runs out, the items are as they were.
 #[inline(always)]
-pub fn append<T: Copy>(items: &mut Vec<T>, item: T) -> Result<(), NoMemory>
+pub(crate) fn append<T: Copy>(items: &mut Vec<T>, item: T) -> Result<(), NoMemory>
     ensures ok { OnOk result (items.new.items ≡ items.old.items ++ item ∷ []) }
     ensures same { OnErr result (items.new.items ≡ items.old.items) }
 {
@@ -78,6 +76,27 @@ fn append_to_full<T: Copy>(items: &mut Vec<T>, item: T) -> Result<(), NoMemory>
     ensures same { OnErr result (items.new.items ≡ items.old.items) }
 {
     items.push(item)?;
+    Ok(())
+}
+
+/// Room for one item more. The items stay.
+#[inline(always)]
+pub fn make_room<T: Copy>(items: &mut Vec<T>) -> Result<(), NoMemory>
+    ensures same { items.new.items ≡ items.old.items }
+    ensures room { OnOk result (vec_len items.new < vec_capacity items.new) }
+{
+    if items.len() < items.capacity() {
+        return Ok(());
+    }
+    grow(items)
+}
+
+#[inline(never)]
+fn grow<T: Copy>(items: &mut Vec<T>) -> Result<(), NoMemory>
+    ensures same { items.new.items ≡ items.old.items }
+    ensures room { OnOk result (vec_len items.new < vec_capacity items.new) }
+{
+    items.reserve(1)?;
     Ok(())
 }
 

@@ -17,7 +17,7 @@ returns-in-Some-clause-step c = λ code vs h.
     let m = c.args.self.now in
     let (v, d, e) = one_taken m vs h.1 (λ low y. after (applied c.args.op y) (pushes code (state_of m vs) low)) c.in-Some.at c.in-Some.y c.in-Some.ensures.0 c.in-Some.ensures.1 c.in-Some.ensures.2 in
     same_step code c.settle.new.self _ (after (applied c.args.op v) (pushes code (state_of m vs) (take c.in-Some.at vs))) c.settle.result e
-    (c.settle.ensures.step code vs (take c.in-Some.at vs) (applied c.args.op v) h.0 (c.put-done.ensures vs (applied c.args.op v) h.1 (c.apply-value.ensures v d)))
+    (c.settle.ensures.step code vs (take c.in-Some.at vs) (applied c.args.op v) h.0 (c.put-done.ensures.value vs (applied c.args.op v) h.1 (c.apply-value.ensures v d)))
 
 pub returns-in-None-clause-step : goal.returns-in-None-clause-step
 returns-in-None-clause-step c = λ code vs h.

@@ -17,7 +17,7 @@ returns-in-Some-clause-step c = λ code vs h.
     let m = c.args.self.now in
     let (v, u, p, q, e) = two_taken m vs h.1 (λ low x y. after (longer x y) (pushes code (state_of m vs) low)) c.in-Some.at c.in-Some.x c.in-Some.y c.in-Some.ensures.0 c.in-Some.ensures.1 c.in-Some.ensures.2 c.in-Some.ensures.3 in
     same_step code c.settle.new.self _ (after (longer v u) (pushes code (state_of m vs) (take c.in-Some.at vs))) c.settle.result e
-    (c.settle.ensures.step code vs (take c.in-Some.at vs) (longer v u) h.0 (c.cons-done.ensures vs v u h.1 p q))
+    (c.settle.ensures.step code vs (take c.in-Some.at vs) (longer v u) h.0 (c.cons-done.ensures.value vs v u h.1 p q))
 
 pub returns-in-None-clause-step : goal.returns-in-None-clause-step
 returns-in-None-clause-step c = λ code vs h.

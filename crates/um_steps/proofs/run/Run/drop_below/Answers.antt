@@ -13,4 +13,4 @@ returns-clause-step c = λ code vs v h d.
     let m = c.args.self.now in
     let low = take (c.args.at - c.args.count) vs in
     same_step code c.go_on.new.self _ (pushes code (state_of m vs) low v) c.go_on.result (slid m vs h.1 code c.args.at c.args.count v (omega arith) c.requires.place)
-    (c.go_on.ensures.step code vs (low ++ v ∷ []) (h.0, c.replace.ensures vs v h.1 d))
+    (c.go_on.ensures.step code vs (low ++ v ∷ []) (h.0, c.replace.ensures.value vs v h.1 d))

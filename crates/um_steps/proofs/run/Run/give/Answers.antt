@@ -15,11 +15,11 @@ returns-in-Some-clause-step c = λ code vs v h d.
     let low = take m.running.base vs in
     let pushed = callers_pushed rest m.callers.items caller c.in-Some.ensures.items in
     let less = take_less m.running.base c.args.at vs c.requires.base in
-    let (from, before, waits) = frames_popped m.ops.now m.entries.now m.running caller rest m.callers.items c.in-Some.ensures.items m.frames in
+    let (from, before, below, waits) = frames_popped m.ops.now m.entries.now m.running caller rest m.callers.items c.in-Some.ensures.items m.frames in
     let s : State = record { at = m.running.back; stack = low ++ v ∷ []; running = frame_of caller; callers = map frame_of (reverse rest); budget = m.budget } in
     let there = arrives_at (code_of m) caller (first_frame m.ops.now m.entries.now caller (reverse rest) waits) s refl from before in (
       low ++ v ∷ [],
-      (h.0, c.replace.ensures vs v h.1 d),
+      (h.0, c.replace.ensures.value vs v h.1 d),
       ap (returns code (state_of m vs) v (take m.running.base (take c.args.at vs))) pushed
           ∙ ap (λ l. arrive code (record { at = m.running.back; stack = l ++ v ∷ []; running = frame_of caller; callers = map frame_of (reverse rest); budget = m.budget })) less
           ∙ ap (λ (x : Code). arrive x s) (sym h.0) ∙ there,
@@ -28,7 +28,7 @@ returns-in-Some-clause-step c = λ code vs v h d.
 pub returns-in-Some-clause-there : goal.returns-in-Some-clause-there
 returns-in-Some-clause-there c =
     let m = c.args.self.now in
-    let (from, before, waits) = frames_popped m.ops.now m.entries.now m.running c.in-Some.caller c.pop.new.self.items m.callers.items c.in-Some.ensures.items m.frames in
+    let (from, before, below, waits) = frames_popped m.ops.now m.entries.now m.running c.in-Some.caller c.pop.new.self.items m.callers.items c.in-Some.ensures.items m.frames in
     (from, before)
 
 pub returns-in-None-clause-step : goal.returns-in-None-clause-step

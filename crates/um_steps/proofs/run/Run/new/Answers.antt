@@ -1,4 +1,4 @@
-use Rattle.std.proofs.Common.{◌<◌, ◌∙◌, ap, refl, sym, subst, map, length, slice_get, get_or}
+use Rattle.std.proofs.Common.{◌<◌, ◌∙◌, ap, refl, sym, subst, map, length, slice_get, get_or, arith}
 use Rattle.std.proofs.lemmas.Option.{slice_get-get_or}
 use Rattle.um_tree.specs.ValueTree.{value_tree}
 use Rattle.um_steps.specs.declared.run.Frame.{Frame}
@@ -22,4 +22,4 @@ invariant_of-result c =
     let entries = c.as_slice-entries.result.now in
     let within = subst (λ es. c.args.f < length es) (sym c.as_slice-entries.ensures) c.requires in
     let f : Frame = record { function = c.args.f; back = 0; base = 0; start = (get_or entries c.args.f no_entry).start; end = c.least-end.result } in
-    record { frames = frame_alone ops entries f c.new-2.result.items c.new-2.ensures.items (within, (refl, c.least-end.ensures)) }
+    record { frames = frame_alone ops entries f c.new-2.result.items c.new-2.ensures.items (within, (refl, c.least-end.ensures)); based = omega arith }

@@ -11,7 +11,7 @@ returns-in-Some-Empty-clause-step c = λ code vs v h k.
     let m = c.args.self.now in
     let low = take c.args.at vs in
     let is : c.args.list ≡ Some Empty = search rules in
-    same_step code c.arrive.new.self _ (goes code (state_of m vs) low c.args.t) c.arrive.result (empty_list m.stack.store _ _ v (subst (λ x. TakenApart m.stack.store v x) is k)) (c.arrive.ensures.step code vs low (h.0, c.cut.ensures vs h.1))
+    same_step code c.arrive.new.self _ (goes code (state_of m vs) low c.args.t) c.arrive.result (empty_list m.stack.store _ _ v (subst (λ x. TakenApart m.stack.store v x) is k)) (c.arrive.ensures.step code vs low (h.0, c.cut.ensures.values vs h.1))
 
 pub settle_two-requires-clause-first : goal.settle_two-requires-clause-first
 settle_two-requires-clause-first c =
@@ -36,7 +36,7 @@ returns-in-Ok-clause-step c = λ code vs v h k.
     let low = take c.args.at vs in
     let is : c.args.list ≡ Some (Items c.in-Some-Items.first c.in-Some-Items.others) = search rules in
     let (x, u, p, q, e) = full_list s (goes code (state_of m vs) low c.args.t) (λ x u. goes code (state_of m vs) (low ++ x ∷ u ∷ []) (m.at + 1)) v c.in-Some-Items.first c.in-Some-Items.others (subst (λ x. TakenApart s v x) is k) in
-    same_step code c.go_on.new.self _ (goes code (state_of m vs) (low ++ x ∷ u ∷ []) (m.at + 1)) c.go_on.result e (c.go_on.ensures.step code vs (low ++ x ∷ u ∷ []) (h.0, c.in-Ok.ensures vs x u h.1 p q))
+    same_step code c.go_on.new.self _ (goes code (state_of m vs) (low ++ x ∷ u ∷ []) (m.at + 1)) c.go_on.result e (c.go_on.ensures.step code vs (low ++ x ∷ u ∷ []) (h.0, c.in-Ok.ensures.values vs x u h.1 p q))
 
 pub returns-in-None-clause-step : goal.returns-in-None-clause-step
 returns-in-None-clause-step c = λ code vs v h k.

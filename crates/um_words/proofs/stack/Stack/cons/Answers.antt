@@ -16,10 +16,10 @@ settle-requires-clause-value c =
     let (l, e, x) = given_some c.cons.new.self (longer v u) c.in-Ok-Some.word (subst (λ o. Gives c.cons.new.self (longer v u) o) c.in-Ok-Some.field-0-is (c.in-Ok-Some.ensures.gives v u d k)) in
     (l, x)
 
-pub returns-in-Ok-Some : goal.returns-in-Ok-Some
-returns-in-Ok-Some c = λ vs v u h d k.
+pub returns-in-Ok-Some-clause-value : goal.returns-in-Ok-Some-clause-value
+returns-in-Ok-Some-clause-value c = λ vs v u h d k.
     let (l, e, x) = given_some c.cons.new.self (longer v u) c.in-Ok-Some.word (subst (λ o. Gives c.cons.new.self (longer v u) o) c.in-Ok-Some.field-0-is (c.in-Ok-Some.ensures.gives v u d k)) in
-    placed_as c.settle.new.self (take c.args.at vs) (longer v u) l c.settle.result e (c.settle.ensures vs l (retained_each c.args.self.now.store.cells.items c.cons.new.self.cells.items c.cons.ensures.keeps c.args.self.now.words.items vs h) x)
+    placed_as c.settle.new.self (take c.args.at vs) (longer v u) l c.settle.result e (c.settle.ensures.value vs l (retained_each c.args.self.now.store.cells.items c.cons.new.self.cells.items c.cons.ensures.keeps c.args.self.now.words.items vs h) x)
 
-pub returns-in-Ok-None : goal.returns-in-Ok-None
-returns-in-Ok-None c = λ vs v u h d k. given_none c.cons.new.self (longer v u) (subst (λ o. Gives c.cons.new.self (longer v u) o) c.in-Ok-None.field-0-is (c.in-Ok-None.ensures.gives v u d k))
+pub returns-in-Ok-None-clause-value : goal.returns-in-Ok-None-clause-value
+returns-in-Ok-None-clause-value c = λ vs v u h d k. given_none c.cons.new.self (longer v u) (subst (λ o. Gives c.cons.new.self (longer v u) o) c.in-Ok-None.field-0-is (c.in-Ok-None.ensures.gives v u d k))

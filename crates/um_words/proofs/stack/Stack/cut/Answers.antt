@@ -4,8 +4,8 @@ use Rattle.um_words.proofs.Taken.{denote_take}
 use Rattle.um_words.proofs.Settled.{cut_held}
 use Rattle.um_words.proofs.stack.Stack.cut.Goals as goal
 
-pub returns : goal.returns
-returns c = λ vs h.
+pub returns-clause-values : goal.returns-clause-values
+returns-clause-values c = λ vs h.
     let s = c.args.self.now.store.cells.items in
     subst (λ ws. DenoteEach s ws (take c.args.at vs)) (sym c.truncate.ensures.items) (denote_take s c.args.at c.args.self.now.words.items vs h)
 

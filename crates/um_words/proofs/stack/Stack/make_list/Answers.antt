@@ -19,9 +19,9 @@ settle-requires-clause-value c =
     let (vs, h) = values_held c.args.self.now c.args.at _ (take_rest c.deref.result.now c.args.at ∙ ap (drop c.args.at) c.deref.ensures.value) in
     (list_value (values_in_order vs), c.in-Ok.ensures.denotes vs h)
 
-pub returns-in-Ok : goal.returns-in-Ok
-returns-in-Ok c = λ vs h.
+pub returns-in-Ok-clause-value : goal.returns-in-Ok-clause-value
+returns-in-Ok-clause-value c = λ vs h.
     let s = c.args.self.now.store.cells.items in
     let same : take (length c.deref.result.now - c.args.at) (drop c.args.at c.deref.result.now) ≡ drop c.args.at c.args.self.now.words.items = take_rest c.deref.result.now c.args.at ∙ ap (drop c.args.at) c.deref.ensures.value in
     let top = subst (λ ws. DenoteEach s ws (drop c.args.at vs)) (sym same) (denote_drop s c.args.at c.args.self.now.words.items vs h) in
-    c.settle.ensures vs (list_value (values_in_order (drop c.args.at vs))) (retained_each s c.make_list.new.self.cells.items c.make_list.ensures.keeps c.args.self.now.words.items vs h) (c.in-Ok.ensures.denotes (drop c.args.at vs) top)
+    c.settle.ensures.value vs (list_value (values_in_order (drop c.args.at vs))) (retained_each s c.make_list.new.self.cells.items c.make_list.ensures.keeps c.args.self.now.words.items vs h) (c.in-Ok.ensures.denotes (drop c.args.at vs) top)

@@ -9,18 +9,18 @@ replace-requires-clause-value c =
     let (v, e, d) = value_outcome s c.requires.value.0 c.in-Value.word (subst (λ x. IsOutcome s c.requires.value.0 x) c.in-Value.is c.requires.value.1) in
     (v, d)
 
-pub returns-in-Value : goal.returns-in-Value
-returns-in-Value c = λ vs r h k.
+pub returns-in-Value-clause-value : goal.returns-in-Value-clause-value
+returns-in-Value-clause-value c = λ vs r h k.
     let s = c.args.self.now.store in
     let (v, e, d) = value_outcome s r c.in-Value.word (subst (λ x. IsOutcome s r x) c.in-Value.is k) in
-    (v, e, c.replace.ensures vs v h d)
+    (v, e, c.replace.ensures.value vs v h d)
 
-pub returns-in-Trap : goal.returns-in-Trap
-returns-in-Trap c = λ vs r h k.
+pub returns-in-Trap-clause-value : goal.returns-in-Trap-clause-value
+returns-in-Trap-clause-value c = λ vs r h k.
     let s = c.args.self.now.store in
     trap_outcome s r c.in-Trap.trap (subst (λ x. IsOutcome s r x) c.in-Trap.is k)
 
-pub returns-in-Wrong : goal.returns-in-Wrong
-returns-in-Wrong c = λ vs r h k.
+pub returns-in-Wrong-clause-value : goal.returns-in-Wrong-clause-value
+returns-in-Wrong-clause-value c = λ vs r h k.
     let s = c.args.self.now.store in
     wrong_outcome s r (subst (λ x. IsOutcome s r x) c.in-Wrong.is k)
