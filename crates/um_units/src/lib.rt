@@ -162,7 +162,7 @@ impl Unit {
         ensures exact { IfOk result (λ unit. unit ≡ product terms.now) }
         ensures fits { IsTrue (fits (product terms.now)) }
     {
-        let terms = SmallVec::from_slice(alloc, terms)?;
+        let terms = copied(alloc, terms)?;
         Ok(Unit { terms })
     }
 
@@ -171,7 +171,7 @@ impl Unit {
         ensures same { IfOk result (λ unit. unit ≡ self.now) }
         ensures fits { IsTrue (fits self.now) }
     {
-        let terms = SmallVec::from_slice(alloc, self.terms.as_slice())?;
+        let terms = copied(alloc, self.terms.as_slice())?;
         Ok(Unit { terms })
     }
 
@@ -215,6 +215,7 @@ impl Unit {
     ///
     /// Range comes exactly if a power of the result is out of range, also if one of the other's k-th power is and the
     /// result's isn't.
+    #[inline(always)]
     pub fn mul_pow(&self, alloc: Global, other: &Unit, k: i32) -> Result<Unit, UnitStop>
         ensures exact { IfOk result (λ unit. unit ≡ mul self.now (pow other.now k)) }
         ensures range { RangeUnless result (fits (mul self.now (pow other.now k))) }
@@ -251,6 +252,9 @@ impl Unit {
         ensures exact { IfOk result (λ unit. unit ≡ replace (nth by.now) self.now) }
         ensures range { RangeUnless result (fits (replace (nth by.now) self.now)) }
     {
+        if self.terms().is_empty() {
+            return Ok(Unit::one(alloc));
+        }
         if self.stays(by) {
             return Ok(self.copy(alloc)?);
         }
@@ -299,6 +303,22 @@ fn term_of(terms: &[Term], a: Atom) -> Option<&Term>
     ensures { option_copied result ≡ find (λ term. same_atom a term.atom) terms.now }
 {
     terms.iter().find(|term| term.atom == a)
+}
+
+/// The same terms. Two or fewer lie in the value, so that they take no memory.
+fn copied(alloc: Global, terms: &[Term]) -> Result<Terms, AllocError>
+    ensures { IfOk result (λ v. v.items ≡ terms.now) }
+{
+    match terms {
+        [] => Ok(Terms::new(alloc)),
+        [only] => {
+            let mut out = Terms::new(alloc);
+            out.push_reserved(*only);
+            Ok(out)
+        }
+        [first, second] => Ok(Terms::from_buf(alloc, [*first, *second])),
+        _ => Terms::from_slice(alloc, terms),
+    }
 }
 
 /// The terms with each power negated.
