@@ -206,6 +206,9 @@ fn eliminate_row(
     ensures slots { length units.new.items ≡ length units.old.items }
     ensures indexed { OnOk result (IsIndex units.new.items index.new.items) }
 {
+    if row.terms().is_empty() {
+        return Ok(());
+    }
     let mut r = row.replace(alloc, units)?;
     loop {
         match take_step(alloc, units, index, &r)? {

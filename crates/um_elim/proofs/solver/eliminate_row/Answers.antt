@@ -1,14 +1,22 @@
-use Rattle.std.proofs.Common.{◌≡◌, ◌∙◌, true, cond, suc, refl, ap, subst, sym, length}
+use Rattle.std.proofs.Common.{◌≡◌, ◌∙◌, [], true, cond, suc, refl, ap, subst, sym, length, rules}
 use Rattle.um_units.specs.Variables.{VariablesBelow}
 use Rattle.um_units.proofs.Variables.{VariablesBelow-replace_nth}
+use Rattle.std.proofs.lemmas.List.{nil_from_length}
 use Rattle.std.proofs.lemmas.Result.{err_from_is_err_and}
-use Rattle.um_units.specs.PowerMap.{replace, nth}
+use Rattle.um_units.specs.PowerMap.{product, images, replace, nth}
 use Rattle.um_units.specs.Range.{fits, IsStopUnless}
 use Rattle.um_pivots.specs.Pivot.{least_power}
 use Rattle.um_elim.specs.Elimination.{Range, steps, eliminate}
 use Rattle.um_elim.specs.Steps.{IsStep, RemainderBelow}
 use Rattle.um_elim.proofs.StepsOfCode.{first_stops, step_goes_on}
 use Rattle.um_elim.proofs.solver.eliminate_row.Goals as goal
+
+pub returns-then-is_empty-clause-outcome : goal.returns-then-is_empty-clause-outcome
+unfolding product
+returns-then-is_empty-clause-outcome c =
+    let us = c.args.units.now.items in
+    let none : c.terms.result.now ≡ [] = nil_from_length c.terms.result.now (search rules) in
+    ap (λ ts. let r = product (images (nth us) ts) in cond (fits r) (steps (suc (least_power r)) us r) Range) (sym c.terms.ensures.terms ∙ none)
 
 pub returns-in_err-r-clause-outcome : goal.returns-in_err-r-clause-outcome
 returns-in_err-r-clause-outcome c =
