@@ -28,14 +28,27 @@ pub fn copied_units(alloc: Global, units: &[Unit]) -> Result<Units, AllocError>
 }
 
 /// An equal type. `AllocError` is the one error.
+// Most types are those of numbers. These are copied in line, and only others by a call.
+#[inline(always)]
 pub fn copied(alloc: Global, ty: &Ty) -> Result<Ty, AllocError>
+    ensures same { IfOk result (λ t. type_tree t ≡ type_tree ty.now) }
+    ensures fits { IfOk result (λ t. IsTrue (type_fits (type_tree t))) }
+{
+    match ty {
+        Ty::Num(unit) => Ok(Ty::Num(unit.copy(alloc)?)),
+        Ty::Bool | Ty::List(_) | Ty::Rec(_, _) => copied_any(alloc, ty),
+    }
+}
+
+/// An equal type, whatever type it is.
+fn copied_any(alloc: Global, ty: &Ty) -> Result<Ty, AllocError>
     ensures same { IfOk result (λ t. type_tree t ≡ type_tree ty.now) }
     ensures fits { IfOk result (λ t. IsTrue (type_fits (type_tree t))) }
 {
     match ty {
         Ty::Bool => Ok(Ty::Bool),
         Ty::Num(unit) => Ok(Ty::Num(unit.copy(alloc)?)),
-        Ty::List(item) => Ok(Ty::List(Box::new(alloc, copied(alloc, item)?)?)),
+        Ty::List(item) => Ok(Ty::List(Box::new(alloc, copied_any(alloc, item)?)?)),
         Ty::Rec(record, units) => Ok(Ty::Rec(*record, copied_units(alloc, units.as_slice())?)),
     }
 }
