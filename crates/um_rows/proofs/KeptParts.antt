@@ -1,6 +1,6 @@
 -- Kept nodes: those of a node after its parts, and those of a part after another.
-use Rattle.std.proofs.Common.{◌≡◌, ℕ, Bool, List, ◌++◌, Result, Ok, refl, sym, ap, ◌∙◌, rules}
-use Rattle.std.proofs.lemmas.List.{append_assoc}
+use Rattle.std.proofs.Common.{◌≡◌, ℕ, Bool, false, List, [], ◌++◌, Result, Ok, Err, refl, sym, ap, ◌∙◌, rules}
+use Rattle.std.proofs.lemmas.List.{append_assoc, append-nil}
 use Rattle.um_tree.specs.declared.expression.Expr.{Expr}
 use Rattle.um_tree.specs.declared.expression.Expr.{the_lemmas}
 use Rattle.um_tree.specs.declared.expression.Node.TheOpen.{Node-F}
@@ -44,3 +44,12 @@ kept_own asked p at m w old mid new parts place_same is first last =
 pub kept_after : {A : Type 0} (m : Result A ℕ) (x : A) (go : A → List TypedNode) (old mid new first : List TypedNode) → m ≡ Ok x → mid ≡ old ++ first → new ≡ mid ++ go x → new ≡ old ++ (first ++ kept_then m go)
 kept_after m x go old mid new first is before after =
     after ∙ ap (λ ns. ns ++ go x) before ∙ append_assoc old first (go x) ∙ ap (λ r. old ++ (first ++ kept_then r go)) (sym is)
+
+-- ---- a walk that isn't asked for nodes keeps none
+none_last : (p : ℕ) (m : Result Walked ℕ) → last_kept false p m ≡ []
+none_last p (Ok w) = refl
+none_last p (Err e) = refl
+
+pub kept_none : (asked : Bool) (p : ℕ) (m : Result Walked ℕ) (old new parts : List TypedNode) → asked ≡ false → new ≡ old ++ parts → new ≡ old ++ (parts ++ last_kept asked p m)
+kept_none asked p m old new parts off same =
+    same ∙ ap (λ ns. old ++ ns) (sym (append-nil parts) ∙ ap (λ ns. parts ++ ns) (sym (ap (λ a. last_kept a p m) off ∙ none_last p m)))

@@ -21,6 +21,7 @@ use um_units::UnitStop;
 
 /// A number with its note.
 #[tactic(auto, using(crate::proofs::NodeLaws::number_past))]
+#[inline(never)]
 pub(crate) fn number(
     alloc: Global,
     context: &Context,
@@ -47,6 +48,7 @@ pub(crate) fn number(
 
 /// The empty list of a written type.
 #[tactic(auto, using(crate::proofs::NodeLaws::nil_past))]
+#[inline(never)]
 pub(crate) fn nil(
     alloc: Global,
     context: &Context,

@@ -50,6 +50,7 @@ pub(crate) fn ask_list(alloc: Global, at: u32, ty: &Ty, rows: &mut Vec<Row>) -> 
 }
 
 /// The type of a variable.
+#[inline(never)]
 pub(crate) fn local(
     alloc: Global,
     at: u32,

@@ -39,7 +39,24 @@ fn item_of(alloc: Global, list: &Ty) -> Result<Ty, AllocError>
 ///
 /// If there is a type the scope is as before.
 #[cycle(walk)]
+#[inline(always)]
 pub(crate) fn derive(walk: &Walk, e: &Expr, state: &mut State) -> Result<Ty, RowStop>
+    requires room { HasRoom walk.now state.old (holes_in walk.now (expr_tree e.now)) }
+    ensures reached { IsReached (walk_from walk.now state.old (expr_tree e.now)) state.new.progress result }
+    ensures fits { IfOk result (λ ty. IsTrue (type_fits (type_tree ty))) }
+    ensures scope { IfOk result (λ _. state.new.scope.items ≡ state.old.scope.items) }
+    ensures kept { IfOk result (λ _. Keeps state.old state.new (kept_from walk.now state.old (expr_tree e.now))) }
+{
+    if walk.keep {
+        return derive_kept(walk, e, state);
+    }
+    derive_node(walk, e, state)
+}
+
+/// The same, if the types of nodes are kept.
+#[cycle(walk)]
+#[inline(never)]
+fn derive_kept(walk: &Walk, e: &Expr, state: &mut State) -> Result<Ty, RowStop>
     requires room { HasRoom walk.now state.old (holes_in walk.now (expr_tree e.now)) }
     ensures reached { IsReached (walk_from walk.now state.old (expr_tree e.now)) state.new.progress result }
     ensures fits { IfOk result (λ ty. IsTrue (type_fits (type_tree ty))) }
@@ -135,6 +152,7 @@ fn derive_binary(
 
 /// The types of two parts, one after the other.
 #[cycle(walk)]
+#[inline(always)]
 fn derive_pair(walk: &Walk, a: &Expr, b: &Expr, state: &mut State) -> Result<Pair, RowStop>
     requires room { HasRoom walk.now state.old
         (holes_in walk.now (expr_tree a.now) + holes_in walk.now (expr_tree b.now)) }
