@@ -1,15 +1,14 @@
 -- Rows solved one by one, up to the first that has no solution.
-use Rattle.std.proofs.Common.{◌≡◌, ℕ, zero, suc, ◌+◌, ◌<◌, ◌≤◌, add-one, Bool, true, false, List, [], ◌∷◌, length, drop, get_or, refl, sym, ap, ◌∙◌, subst, arith}
+use Rattle.std.proofs.Common.{◌≡◌, ℕ, suc, ◌+◌, ◌<◌, ◌≤◌, add-one, Bool, true, false, List, ◌∷◌, length, drop, get_or, refl, sym, ap, ◌∙◌, subst}
 use Rattle.std.specs.Prelude.{All}
 use Rattle.std.proofs.lemmas.List.{drop_more, drop_all}
 use Rattle.std.proofs.lemmas.List.Elements.{All-get_or}
-use Rattle.um_units.specs.PowerMap.{PowerMap}
 use Rattle.um_units.specs.Variables.{VariablesBelow}
 use Rattle.um_elim.specs.Elimination.{Elimination, Solved, NoSolution, Range, eliminate}
 use Rattle.um_elim.specs.Solution.{Solution, rigid, rigid_units}
 use Rattle.um_elim.proofs.Slots.{length-rigid}
 use Rattle.um_equal_types.specs.declared.row.Row.{Row}
-use Rattle.um_rows.specs.FirstUnsolvable.{Solving, solved, unsolved, out_of_range, after_row, solve}
+use Rattle.um_rows.specs.FirstUnsolvable.{Solving, solved, unsolved, after_row, solve}
 use Rattle.um_reasons.specs.Answers.{IsUnsolved, IsJoined}
 
 module _ (bases parameters slots : ℕ) (rows : List Row) where

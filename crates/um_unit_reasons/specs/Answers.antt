@@ -1,6 +1,6 @@
 -- What is found on the way to a reason.
 -- Source: this project's own; want of memory may come in place of every answer, and no public clause rests on it.
-use Rattle.std.specs.Prelude.{◌≡◌, ◌≤◌, ◌<◌, ℕ, ◌||◌, nat_eq, if◌then◌else◌, Bool, true, false, IsTrue, All}
+use Rattle.std.specs.Prelude.{◌≡◌, ◌≤◌, ◌<◌, ℕ, ◌||◌, nat_eq, if◌then◌else◌, Bool, IsTrue, All}
 use Rattle.std.specs.Prelude.{List, [], ◌∷◌, ◌++◌, map, length, slice_index_or, slice_get, Some, None, Result, Ok, Err}
 use Rattle.std.specs.List.{list_any, list_all}
 use Rattle.um_units.specs.declared.UnitStop.{UnitStop}
