@@ -1,5 +1,5 @@
 //! Bytes in the value or on the heap.
-ghost use Rattle.std.specs.Prelude.{◌≡◌, ◌≤◌, [], length, IfOk, IsOk};
+ghost use Rattle.std.specs.Prelude.{◌≡◌, ◌≤◌, [], length, take, IfOk, IsOk};
 
 use crate::short::ShortBytes;
 use std::alloc::{AllocError, Global};
@@ -50,6 +50,20 @@ impl InlineBytes {
         let heap = Vec::from_slice(alloc, slice)?;
         let storage = Storage::Heap(Box::new(alloc, heap)?);
         Ok(InlineBytes { storage })
+    }
+
+    /// The first `len` bytes of a slice, copied. Takes no memory if `len` is at most 16.
+    #[inline(always)]
+    pub fn from_front(alloc: Global, slice: &[u8], len: usize) -> Result<InlineBytes, AllocError>
+        requires { len ≤ length slice.now }
+        ensures bytes { IfOk result (λ bytes. bytes ≡ take len slice.now) }
+        ensures short { len ≤ 16 → IsOk result }
+    {
+        if len <= 16 {
+            let storage = Storage::Inline(ShortBytes::from_front(slice, len));
+            return Ok(InlineBytes { storage });
+        }
+        InlineBytes::from_slice(alloc, &slice[..len])
     }
 
     /// The bytes.

@@ -1,5 +1,5 @@
 //! Bytes in an array.
-ghost use Rattle.std.specs.Prelude.{◌≡◌, ◌≤◌, [], length};
+ghost use Rattle.std.specs.Prelude.{◌≡◌, ◌≤◌, [], length, take};
 
 use std::marker::Model;
 
@@ -39,6 +39,24 @@ impl ShortBytes {
         let len = slice.len();
         let mut bytes = [0; 16];
         bytes[..len].copy_from_slice(slice);
+        ShortBytes {
+            len: len as u32,
+            bytes,
+        }
+    }
+
+    /// The first bytes of a slice, copied. If the slice has 16, these are copied at once.
+    #[inline(always)]
+    pub fn from_front(slice: &[u8], len: usize) -> ShortBytes
+        requires within { len ≤ length slice.now }
+        requires short { len ≤ 16 }
+        ensures { result ≡ take len slice.now }
+    {
+        if slice.len() < 16 {
+            return ShortBytes::from_slice(&slice[..len]);
+        }
+        let mut bytes = [0; 16];
+        bytes.copy_from_slice(&slice[..16]);
         ShortBytes {
             len: len as u32,
             bytes,
