@@ -40,7 +40,7 @@ impl Letters {
         requires { len ≤ length bytes.now }
         ensures { IfOk result (λ l. l ≡ take len bytes.now) }
     {
-        let bytes = InlineBytes::from_slice(alloc, &bytes[..len])?;
+        let bytes = InlineBytes::from_front(alloc, bytes, len)?;
         Ok(Letters { bytes })
     }
 
