@@ -69,9 +69,10 @@ fn clear_params(alloc: Global, params: &mut RawParams)
 }
 
 impl FunctionBody {
-    ghost use Rattle.std.specs.Prelude.{IfOk};
+    ghost use Rattle.std.specs.Prelude.{IfOk, option_map};
+    ghost use Rattle.um_tree.specs.RawTree.{expr_syntax};
     ghost use Rattle.um_reader.specs.Takes.{Takes};
-    ghost use Rattle.um_operands.specs.ExprBegun.{Need};
+    ghost use Rattle.um_operands.specs.ExprBegun.{Need, finish};
     ghost use Rattle.um_operands.specs.ExprLeast.{whole_least};
     ghost use Rattle.um_expr.specs.ExprMachine.{machine_of_expressions};
     ghost use Rattle.um_expr.specs.ExprStates.{expr_state};
@@ -87,7 +88,33 @@ impl FunctionBody {
         FunctionBody { result: ty, body }
     }
 
+    // Another body begins after this result type. The result type before was taken out when its function ended.
+    fn restart(&mut self, ty: Option<RawType>)
+        requires low { result_height (written_type ty) ≤ greatest_height }
+        ensures written { self.new.result ≡ ty }
+        ensures begun { expr_state self.new.body ≡ Need [] }
+    {
+        mem::forget(mem::replace(&mut self.result, ty));
+        self.body.restart();
+    }
+
+    // The body of the tokens that were taken, if they are one, out of the reader.
+    fn take_whole(&mut self, alloc: Global) -> Result<Option<RawExpr>, AllocError>
+        ensures written { self.new.result ≡ self.old.result }
+        ensures found { IfOk result (λ o. option_map expr_syntax o ≡ finish (expr_state self.old.body)) }
+    {
+        self.body.take_whole(alloc)
+    }
+
+    // The result type, out of the reader.
+    fn take_result(&mut self) -> Option<RawType>
+        ensures { result ≡ self.old.result }
+    {
+        mem::replace(&mut self.result, None)
+    }
+
     // One token more.
+    #[inline(always)]
     fn take(&mut self, alloc: Global, token: &mut Token) -> Result<Taken, AllocError>
         requires low { whole_least (expr_state self.old.body) ≤ greatest_height }
         ensures written { self.new.result ≡ self.old.result }
@@ -177,6 +204,7 @@ impl FunctionReader {
 
     /// One token more. A token that is refused still begins a declaration as it did, though its letters may be gone.
     /// Most tokens stand in bodies.
+    #[inline(always)]
     pub fn take(&mut self, alloc: Global, token: &mut Token) -> Result<Taken, AllocError>
         requires low { decl_least (function_state self.old) ≤ greatest_height }
         ensures taken { IfOk result (λ t. Takes machine_of_declarations greatest_height (function_state self.old)
@@ -190,6 +218,7 @@ impl FunctionReader {
     }
 
     // One token more of the body.
+    #[inline(always)]
     fn take_body(&mut self, alloc: Global, token: &mut Token) -> Result<Taken, AllocError>
         requires body { self.old.expected ≡ FunctionExpected.Body }
         requires low { decl_least (function_state self.old) ≤ greatest_height }
@@ -222,7 +251,7 @@ impl FunctionReader {
             },
             FunctionExpected::Named => Ok(self.take_named(alloc, token)),
             FunctionExpected::Var(_) => self.take_own(alloc, token),
-            FunctionExpected::Params => Ok(self.take_params(alloc, token)),
+            FunctionExpected::Params => Ok(self.take_params(token)),
             FunctionExpected::Binder => Ok(self.take_binder(alloc, token)),
             FunctionExpected::Colon(_) => self.take_own(alloc, token),
         }
@@ -239,11 +268,11 @@ impl FunctionReader {
         match mem::replace(&mut self.expected, FunctionExpected::Params) {
             FunctionExpected::Named => Ok(self.take_named(alloc, token)),
             FunctionExpected::Var(expected) => self.take_vars(alloc, expected, token),
-            FunctionExpected::Params => Ok(self.take_params(alloc, token)),
+            FunctionExpected::Params => Ok(self.take_params(token)),
             FunctionExpected::Binder => Ok(self.take_binder(alloc, token)),
             FunctionExpected::Colon(binder) => Ok(self.take_colon(binder, token)),
             FunctionExpected::Param(binder) => self.end_param(binder, token),
-            FunctionExpected::Result => Ok(self.end_result(alloc, token)),
+            FunctionExpected::Result => Ok(self.end_result(token)),
             FunctionExpected::Body => {
                 self.put(FunctionExpected::Body);
                 Ok(Taken::Stops)
@@ -265,25 +294,34 @@ impl FunctionReader {
         }
     }
 
-    // From now on a type is read.
+    // From now on this is expected. What was expected before holds nothing that has to be let go.
+    #[inline(always)]
+    fn set(&mut self, expected: FunctionExpected)
+        ensures { function_state self.new
+            ≡ param_state (start_in self.old) (read_params self.old) (type_state self.old.ty) self.old.body expected }
+    {
+        mem::forget(mem::replace(&mut self.expected, expected));
+    }
+
+    // From now on a type is read, after something that holds nothing that has to be let go.
+    #[inline(always)]
     fn begin_type(&mut self, expected: FunctionExpected)
         ensures { function_state self.new
             ≡ param_state (start_in self.old) (read_params self.old) (NeedType 0) self.old.body expected }
     {
         self.ty.restart();
-        self.put(expected);
+        self.set(expected);
     }
 
-    // From now on the body is read. The one before was taken out when it ended, so there is nothing to let go.
-    fn begin_body(&mut self, alloc: Global, ty: Option<RawType>) -> Taken
+    // From now on the body is read.
+    fn begin_body(&mut self, ty: Option<RawType>) -> Taken
         requires low { result_height (written_type ty) ≤ greatest_height }
         ensures { Gives machine_of_declarations greatest_height NoDecl
             (InBody (start_in self.old) (read_params self.old) (written_type ty) (Need []))
             result (function_state self.new) }
     {
-        let body = FunctionBody::new(alloc, ty);
-        mem::forget(mem::replace(&mut self.body, body));
-        self.put(FunctionExpected::Body);
+        self.body.restart(ty);
+        self.set(FunctionExpected::Body);
         Taken::Goes
     }
 
@@ -314,7 +352,7 @@ impl FunctionReader {
         clear_vars(alloc, &mut self.head.vars);
         clear_params(alloc, &mut self.params);
         mem::forget(mem::replace(&mut self.expected, FunctionExpected::Params));
-        self.take_params(alloc, token)
+        self.take_params(token)
     }
 
     // The token among the unit parameters.
@@ -346,7 +384,7 @@ impl FunctionReader {
     }
 
     // The token after the parameters, or the unit parameters.
-    fn take_params(&mut self, alloc: Global, token: &Token) -> Taken
+    fn take_params(&mut self, token: &Token) -> Taken
         requires wanted { self.old.expected ≡ FunctionExpected.Params }
         ensures { Gives machine_of_declarations greatest_height NoDecl
             (take_params (start_in self.old) (read_params self.old) (expr_token token.now.kind))
@@ -354,20 +392,20 @@ impl FunctionReader {
     {
         match &token.kind {
             Kind::Sign(Symbol::LeftParen) => {
-                self.put(FunctionExpected::Binder);
+                self.set(FunctionExpected::Binder);
                 Taken::Goes
             }
             Kind::Sign(Symbol::Colon) => {
                 self.begin_type(FunctionExpected::Result);
                 Taken::Goes
             }
-            Kind::Sign(Symbol::Equal) => self.take_equal(alloc),
+            Kind::Sign(Symbol::Equal) => self.take_equal(),
             _ => Taken::Stops,
         }
     }
 
     // `=` after the parameters: a function with `rec` has a result type.
-    fn take_equal(&mut self, alloc: Global) -> Taken
+    fn take_equal(&mut self) -> Taken
         requires wanted { self.old.expected ≡ FunctionExpected.Params }
         ensures { Gives machine_of_declarations greatest_height NoDecl
             (body_begins (start_in self.old) (read_params self.old)) result (function_state self.new) }
@@ -375,7 +413,7 @@ impl FunctionReader {
         if self.recursive {
             return Taken::Stops;
         }
-        self.begin_body(alloc, None)
+        self.begin_body(None)
     }
 
     // The token after the `(` of a parameter.
@@ -391,11 +429,11 @@ impl FunctionReader {
         match &mut token.kind {
             Kind::Name(letters) => {
                 let name = Some(name_of(letters.take(alloc)));
-                self.put(FunctionExpected::Colon(Binder { at, name }));
+                self.set(FunctionExpected::Colon(Binder { at, name }));
                 Taken::Goes
             }
             Kind::Hole => {
-                self.put(FunctionExpected::Colon(Binder { at, name: None }));
+                self.set(FunctionExpected::Colon(Binder { at, name: None }));
                 Taken::Goes
             }
             _ => Taken::Stops,
@@ -463,7 +501,7 @@ impl FunctionReader {
     }
 
     // The token that the result type has refused.
-    fn end_result(&mut self, alloc: Global, token: &Token) -> Taken
+    fn end_result(&mut self, token: &Token) -> Taken
         requires wanted { self.old.expected ≡ FunctionExpected.Params }
         requires low { (t : TypeSyntax) → type_finish (type_state self.old.ty) ≡ Some t
             → whole_height t ≤ greatest_height }
@@ -473,13 +511,13 @@ impl FunctionReader {
             result (function_state self.new) }
     {
         match self.ty.take_whole() {
-            Some(ty) => self.after_result(alloc, ty, token),
+            Some(ty) => self.after_result(ty, token),
             None => Taken::Stops,
         }
     }
 
     // The token after the result type.
-    fn after_result(&mut self, alloc: Global, ty: RawType, token: &Token) -> Taken
+    fn after_result(&mut self, ty: RawType, token: &Token) -> Taken
         requires wanted { self.old.expected ≡ FunctionExpected.Params }
         requires low { whole_height (type_syntax ty) ≤ greatest_height }
         ensures { Gives machine_of_declarations greatest_height NoDecl
@@ -488,7 +526,7 @@ impl FunctionReader {
             result (function_state self.new) }
     {
         match &token.kind {
-            Kind::Sign(Symbol::Equal) => self.begin_body(alloc, Some(ty)),
+            Kind::Sign(Symbol::Equal) => self.begin_body(Some(ty)),
             _ => {
                 drop(ty);
                 Taken::Stops
@@ -532,34 +570,6 @@ impl FunctionReader {
         }
     }
 
-    // The function whose body ends here is added to these declarations, if the body is whole. Answers whether it is.
-    fn end_body(
-        alloc: Global,
-        recursive: bool,
-        head: Head,
-        params: RawParams,
-        body: FunctionBody,
-        decls: &mut Vec<RawDecl>,
-    ) -> Result<bool, AllocError>
-        ensures { IfOk result (λ whole. Ends (body_found (started recursive head.at head.name (head_vars head))
-            (map param_syntax params.items.items) (written_type body.result) (finish (expr_state body.body)))
-            whole decls.old.items decls.new.items) }
-    {
-        let FunctionBody {
-            result: written,
-            body,
-        } = body;
-        match body.finish(alloc) {
-            Ok(found) => FunctionReader::with_body(recursive, head, params, written, found, decls),
-            Err(error) => {
-                drop(head);
-                drop(params);
-                drop(written);
-                Err(error)
-            }
-        }
-    }
-
     /// The function of the tokens that were taken is added to these declarations, if it is whole. Answers whether it
     /// is.
     #[inline(never)]
@@ -585,12 +595,13 @@ impl FunctionReader {
             (written_type self.old.body.result) (finish (expr_state self.old.body.body)))
             whole decls.old.items decls.new.items) }
     {
+        let found = self.body.take_whole(alloc)?;
+        let written = self.body.take_result();
         let head = mem::replace(&mut self.head, Head::plain(alloc, 0, Name::empty()));
         let params = RawParams {
             items: Vec::new(alloc),
         };
         let params = mem::replace(&mut self.params, params);
-        let body = mem::replace(&mut self.body, FunctionBody::new(alloc, None));
-        FunctionReader::end_body(alloc, self.recursive, head, params, body, decls)
+        FunctionReader::with_body(self.recursive, head, params, written, found, decls)
     }
 }

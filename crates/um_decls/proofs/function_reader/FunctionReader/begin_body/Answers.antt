@@ -4,7 +4,6 @@ use Rattle.um_operands.specs.ExprBegun.{Need}
 use Rattle.um_expr.specs.ExprStates.{expr_state}
 use Rattle.um_decls.specs.DeclMachine.{NoDecl, InBody}
 use Rattle.um_decls.specs.DeclViews.{start_in, read_params}
-use Rattle.um_decls.specs.declared.function_reader.FunctionBody.{FunctionBody}
 use Rattle.um_decls.proofs.DeclTaken.{goes_on}
 use Rattle.um_decls.proofs.function_reader.FunctionReader.begin_body.Goals as goal
 
@@ -13,7 +12,7 @@ returns c =
     let old = c.args.self.now in
     let s = start_in old in
     let ps = read_params old in
-    let body = c.new-body.result in
+    let body = c.restart.new.self in
     goes_on NoDecl _ (InBody s ps (written_type c.args.ty) (Need [])) _
-    (c.put.ensures ∙ ap (λ (b : FunctionBody). InBody s ps (written_type b.result) (expr_state b.body)) c.replace.ensures.after ∙ ap (λ r. InBody s ps (written_type r) (expr_state body.body)) c.new-body.ensures.written ∙ ap (InBody s ps (written_type c.args.ty)) c.new-body.ensures.begun)
+    (c.set.ensures ∙ ap (λ r. InBody s ps (written_type r) (expr_state body.body)) c.restart.ensures.written ∙ ap (InBody s ps (written_type c.args.ty)) c.restart.ensures.begun)
     refl (λ e. cc) (omega (arith, old.low, c.requires.low))

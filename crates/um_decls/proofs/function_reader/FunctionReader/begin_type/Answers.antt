@@ -5,4 +5,4 @@ use Rattle.um_decls.proofs.function_reader.FunctionReader.begin_type.Goals as go
 pub returns : goal.returns
 returns c =
     let old = c.args.self.now in
-    c.put.ensures ∙ ap (λ s. param_state (start_in old) (read_params old) s old.body c.args.expected) c.restart.ensures.start
+    c.set.ensures ∙ ap (λ s. param_state (start_in old) (read_params old) s old.body c.args.expected) c.restart.ensures.start

@@ -15,7 +15,7 @@ returns-in-Name c =
     record {
       taken =
           goes_on NoDecl _ (Expects (ParamColon s ps (record { at = at; name = Some c.in-Name.letters }))) _
-          (c.put.ensures ∙ ap (λ x. Expects (ParamColon s ps (record { at = at; name = Some x }))) letters)
+          (c.set.ensures ∙ ap (λ x. Expects (ParamColon s ps (record { at = at; name = Some x }))) letters)
           (ap (λ k. take_expected (ParamBinder s ps) (expr_token k) at) c.in-Name.is) (λ e. cc) (omega (arith, old.low));
       kept = sym (ap (λ k. take_expected DeclBegin (expr_token k) at) c.in-Name.is);
     }
@@ -26,5 +26,5 @@ returns-in-Hole-clause-taken c =
     let s = start_in old in
     let ps = read_params old in
     let at = c.args.token.now.start in
-    goes_on NoDecl _ (Expects (ParamColon s ps (record { at = at; name = None }))) _ c.put-in-Hole.ensures
+    goes_on NoDecl _ (Expects (ParamColon s ps (record { at = at; name = None }))) _ c.set-in-Hole.ensures
     (ap (λ k. take_expected (ParamBinder s ps) (expr_token k) at) c.in-Hole.is) (λ e. cc) (omega (arith, old.low))
