@@ -15,6 +15,7 @@ use um_types::TypeReader;
 use um_unit_texts::UnitReader;
 
 /// One token more of a type, which stays as it was if it is refused.
+#[inline(always)]
 pub fn take_in_type(
     ty: &mut TypeReader,
     alloc: Global,

@@ -139,6 +139,7 @@ impl TypeReader {
     }
 
     /// One token more, which stays as it was if it is refused.
+    #[inline(always)]
     pub fn take(&mut self, alloc: Global, token: &mut Token) -> Result<Taken, AllocError>
         requires low { type_least (type_state self.old) ≤ greatest_height }
         ensures taken { IfOk result
