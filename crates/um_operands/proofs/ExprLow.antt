@@ -36,7 +36,7 @@ frame_notes (open_at.InNegate at) = omega arith
 frame_notes (open_at.InNot at) = omega arith
 frame_notes (open_at.InPown at) = omega arith
 frame_notes (open_at.InRight at sign left) = left.low
-frame_notes (open_at.InArgument at f before room) = before.low
+frame_notes (open_at.InArgument at f before) = before.low
 
 expected_low : (p : ExpectedToken) → expected_notes (view_expected p) ≤ greatest_height
 expected_low (expected.LetBinder at) = omega arith

@@ -30,7 +30,7 @@ view_frame (open_at.InNegate at) = InNegate at
 view_frame (open_at.InNot at) = InNot at
 view_frame (open_at.InPown at) = InPown at
 view_frame (open_at.InRight at sign left) = InRight at sign (operand_expr left)
-view_frame (open_at.InArgument at f before room) = InArgument at f (operand_exprs before)
+view_frame (open_at.InArgument at f before) = InArgument at f (operand_exprs before)
 
 abbrev pub entry_frame : Entry → Frame
 entry_frame e = view_frame e.frame

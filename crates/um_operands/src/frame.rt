@@ -12,7 +12,7 @@ use crate::matching::Matching;
 use crate::operand::Operand;
 use crate::operands::{Operands, ReadFields};
 use std::alloc::{AllocError, Global};
-use um_tree::{Binder, Name, RawExpr};
+use um_tree::{Binder, Name};
 use um_unit_texts::higher;
 
 /// A form that has begun, up to the operand that is read next. The first number of each variant is its place.
@@ -39,8 +39,8 @@ pub enum Frame {
     /// After `pown`: its power ends it
     InPown(u32),
     InRight(u32, Infix, Operand),
-    /// After a name and these arguments, with the box that the name stood in, which the call takes
-    InArgument(u32, Name, Operands, Box<RawExpr>),
+    /// After a name and these arguments
+    InArgument(u32, Name, Operands),
 }
 
 /// An open frame, and the least height that the parts in it and in the frames around it ask for, counted.
@@ -50,23 +50,15 @@ pub struct Entry {
     pub least: u32,
 }
 
-// A call with its last argument.
-fn call(
-    at: u32,
-    name: Name,
-    before: Operands,
-    room: Box<RawExpr>,
-    last: Operand,
-) -> Result<Operand, AllocError>
+// A call with its last argument, in the box in which that stood.
+#[inline(always)]
+fn call(at: u32, name: Name, before: Operands, last: Operand) -> Result<Operand, AllocError>
     ensures { IfOk result (λ p. operand_expr p
         ≡ call_syntax at name (exprs_in_order (operand_exprs before ++ operand_expr last ∷ []))) }
 {
-    match before.with(last) {
-        Ok(arguments) => Ok(arguments.call(at, name, room)),
-        Err(error) => {
-            drop(room);
-            Err(error)
-        }
+    match before.with_room(last) {
+        Ok((arguments, room)) => Ok(arguments.call(at, name, room)),
+        Err(error) => Err(error),
     }
 }
 
@@ -87,7 +79,7 @@ impl Frame {
         match self {
             Frame::InNegate(_) => 3,
             Frame::InRight(_, sign, _) => sign.right_bound(),
-            Frame::InNot(_) | Frame::InPown(_) | Frame::InArgument(_, _, _, _) => 1,
+            Frame::InNot(_) | Frame::InPown(_) | Frame::InArgument(_, _, _) => 1,
             _ => 10,
         }
     }
@@ -104,7 +96,7 @@ impl Frame {
             Frame::InNegate(_) => 2,
             Frame::InNot(_) => 1,
             Frame::InRight(_, sign, _) => sign.rank(),
-            Frame::InArgument(_, _, _, _) => 1,
+            Frame::InArgument(_, _, _) => 1,
             _ => 10,
         }
     }
@@ -114,7 +106,7 @@ impl Frame {
         ensures { result ≡ is_call (view_frame self.now) }
     {
         match self {
-            Frame::InArgument(_, _, _, _) => true,
+            Frame::InArgument(_, _, _) => true,
             _ => false,
         }
     }
@@ -152,7 +144,7 @@ impl Frame {
             Frame::InNot(_) => 0,
             Frame::InPown(_) => 0,
             Frame::InRight(_, _, left) => left.height,
-            Frame::InArgument(_, _, before, _) => before.height,
+            Frame::InArgument(_, _, before) => before.height,
         }
     }
 
@@ -163,11 +155,12 @@ impl Frame {
     {
         match self {
             Frame::InRight(at, sign, left) => left.infix(alloc, at, sign, last),
+            Frame::InArgument(at, name, before) => call(at, name, before, last),
             other => other.plug_form(alloc, last),
         }
     }
 
-    // The same for the forms that are rarer than a sign between two operands.
+    // The same for the forms that are rarer than a sign between two operands and a call.
     #[inline(never)]
     fn plug_form(self, alloc: Global, last: Operand) -> Result<Operand, AllocError>
         ensures { IfOk result (λ p. operand_expr p ≡ plug (view_frame self) (operand_expr last)) }
@@ -179,7 +172,7 @@ impl Frame {
             Frame::InNegate(at) => last.negate(alloc, at),
             Frame::InNot(at) => last.not(alloc, at),
             Frame::InRight(at, sign, left) => left.infix(alloc, at, sign, last),
-            Frame::InArgument(at, name, before, room) => call(at, name, before, room, last),
+            Frame::InArgument(at, name, before) => call(at, name, before, last),
             other => Ok(unframed(other, last)),
         }
     }

@@ -89,6 +89,14 @@ impl Operand {
         Operand::in_room(room, RawExpr { at, node }, 1)
     }
 
+    /// A name, in a box whose own tree was used up
+    pub fn named(room: Box<RawExpr>, at: u32, name: Name) -> Operand
+        ensures { operand_expr result ≡ name_syntax at name }
+    {
+        let node = RawNode::Name(name);
+        Operand::in_room(room, RawExpr { at, node }, 1)
+    }
+
     /// A name
     pub fn name(alloc: Global, at: u32, name: Name) -> Result<Operand, AllocError>
         ensures { IfOk result (λ p. operand_expr p ≡ name_syntax at name) }

@@ -10,6 +10,7 @@ ghost use Rattle.um_operands.specs.ExprBegun.{with_field};
 
 use crate::operand::Operand;
 use std::alloc::{AllocError, Global};
+use std::mem;
 use um_tree::{Name, RawExpr, RawExprs, RawField, RawFields, RawNode};
 use um_unit_texts::{higher, one_higher};
 
@@ -32,6 +33,7 @@ pub struct ReadFields {
 }
 
 // The items, with one more.
+#[inline(always)]
 fn added<T: Drop>(items: Vec<T>, last: T) -> Result<Vec<T>, AllocError>
     ensures { IfOk result (λ xs. xs.items ≡ items.items ++ last ∷ []) }
 {
@@ -62,7 +64,35 @@ impl Operands {
         }
     }
 
+    /// With one item more, and the box in which that stood, whose tree was used up
+    #[inline(always)]
+    pub fn with_room(self, last: Operand) -> Result<(Operands, Box<RawExpr>), AllocError>
+        ensures { IfOk result (λ r. operand_exprs r.0 ≡ operand_exprs self ++ operand_expr last ∷ []) }
+    {
+        let Operands { items, height } = self;
+        let Operand {
+            tree,
+            height: last_height,
+        } = last;
+        let mut room = tree;
+        let used = RawExpr {
+            at: 0,
+            node: RawNode::Bool(false),
+        };
+        match added(items, mem::replace(&mut *room, used)) {
+            Ok(items) => {
+                let height = higher(height, last_height);
+                Ok((Operands { items, height }, room))
+            }
+            Err(error) => {
+                drop(room);
+                Err(error)
+            }
+        }
+    }
+
     /// With one item more
+    #[inline(always)]
     pub fn with(self, last: Operand) -> Result<Operands, AllocError>
         ensures { IfOk result (λ f. operand_exprs f ≡ operand_exprs self ++ operand_expr last ∷ []) }
     {
