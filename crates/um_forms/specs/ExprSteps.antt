@@ -18,6 +18,8 @@ use Rattle.um_operands.specs.ExprOperands.{operand_expr}
 use Rattle.um_operands.specs.ExprFrames.{is_call}
 use Rattle.um_operands.specs.ExprFocus.{open_in, begun_state}
 use Rattle.um_forms.specs.declared.token.ExprToken.TheVariants.{Operator as operator, Mark as mark}
+use Rattle.um_forms.specs.declared.argument.Before.{Before}
+use Rattle.um_forms.specs.declared.argument.Before.TheVariants as before
 use Rattle.um_forms.specs.ExprTokens.{symbol_token}
 use Rattle.um_forms.specs.ExprForms.{argument, infix_after, operator_after}
 
@@ -40,9 +42,9 @@ in_call [] = false
 in_call (frame ∷ frames) = is_call frame
 
 -- an argument begins, or the operand is handed back
-abbrev pub Argued : List Frame → ExprSyntax → Option Operand → List Frame → Type 0
-Argued old t None new = argument old t ≡ Some new
-Argued old t (Some same) new = (argument old t ≡ None) × (new ≡ old) × (operand_expr same ≡ t)
+abbrev pub Argued : List Frame → ExprSyntax → Before → List Frame → Type 0
+Argued old t (before.Called room) new = argument old t ≡ Some new
+Argued old t (before.Back same) new = (argument old t ≡ None) × (new ≡ old) × (operand_expr same ≡ t)
 
 -- after `[` `]`, whose list is the first thing in brackets
 abbrev pub bracket_empty : List Frame → State

@@ -1,8 +1,8 @@
 // An atom after an atom: it is an argument.
 ghost use Rattle.std.specs.Prelude.{◌≡◌, ◌<◌, ◌∷◌, IfOk, None, Some, OnOk, false, true};
 ghost use Rattle.um_operands.specs.ExprKinds.{is_name};
-ghost use Rattle.um_operands.specs.ExprBegun.{top_bound};
-ghost use Rattle.um_operands.specs.ExprOperands.{operand_expr};
+ghost use Rattle.um_operands.specs.ExprBegun.{InArgument as in_argument, top_bound};
+ghost use Rattle.um_operands.specs.ExprOperands.{operand_expr, operand_exprs};
 ghost use Rattle.um_operands.specs.ExprFrames.{view_frame, is_call};
 ghost use Rattle.um_operands.specs.ExprStack.{frames_of};
 ghost use Rattle.um_operands.specs.ExprFocus.{open_in};
@@ -15,7 +15,7 @@ use crate::wanted::begin;
 use std::alloc::{AllocError, Global};
 use std::mem;
 use um_operands::{Begun, Focus, Frame, Frames, Operand, Operands, Step, composite, whole};
-use um_tree::{Name, RawNode};
+use um_tree::{Name, RawExpr, RawNode};
 
 /// Whether the innermost frame is a call.
 pub fn in_call(frames: &Frames) -> bool
@@ -27,45 +27,77 @@ pub fn in_call(frames: &Frames) -> bool
     }
 }
 
-fn no_call(frame: Frame, operand: Operand) {
-    drop(frame);
-    drop(operand);
+// What an operand before an atom becomes: a part of a call, and its box is free for the atom, or it is handed back.
+#[derive(Drop)]
+pub enum Before {
+    Called(Box<RawExpr>),
+    Back(Operand),
 }
 
-// One argument more of this call.
-fn add_argument(frames: &mut Frames, frame: Frame, operand: Operand) -> Result<(), AllocError>
+// The box of an operand that is let go with its frame.
+fn no_call(frame: Frame, operand: Operand) -> Box<RawExpr> {
+    drop(frame);
+    operand.tree
+}
+
+// One argument more of this call. Gives the box in which it stood.
+fn add_argument(
+    frames: &mut Frames,
+    frame: Frame,
+    operand: Operand,
+) -> Result<Box<RawExpr>, AllocError>
     requires { is_call (view_frame frame) ≡ true }
     ensures { OnOk result
         (argument (view_frame frame ∷ frames_of frames.old) (operand_expr operand) ≡ Some (frames_of frames.new)) }
 {
     match frame {
-        Frame::InArgument(at, name, before, room) => match before.with(operand) {
-            Ok(arguments) => frames.push(Frame::InArgument(at, name, arguments, room)),
-            Err(error) => {
-                drop(room);
-                Err(error)
-            }
+        Frame::InArgument(at, name, before) => match before.with_room(operand) {
+            Ok((arguments, room)) => open_call(frames, at, name, arguments, room),
+            Err(error) => Err(error),
         },
         other => Ok(no_call(other, operand)),
     }
 }
 
-// One argument more of the innermost call.
-fn more_arguments(frames: &mut Frames, operand: Operand) -> Result<(), AllocError>
+// The call with these arguments is open. Gives the box.
+#[inline(always)]
+fn open_call(
+    frames: &mut Frames,
+    at: u32,
+    name: Name,
+    arguments: Operands,
+    room: Box<RawExpr>,
+) -> Result<Box<RawExpr>, AllocError>
+    ensures { OnOk result (frames_of frames.new ≡ in_argument at name (operand_exprs arguments) ∷ frames_of frames.old) }
+{
+    match frames.push(Frame::InArgument(at, name, arguments)) {
+        Ok(()) => Ok(room),
+        Err(error) => {
+            drop(room);
+            Err(error)
+        }
+    }
+}
+
+// One argument more of the innermost call. Gives the box in which it stood.
+fn more_arguments(frames: &mut Frames, operand: Operand) -> Result<Box<RawExpr>, AllocError>
     requires { in_call (frames_of frames.old) ≡ true }
     ensures { OnOk result (argument (frames_of frames.old) (operand_expr operand) ≡ Some (frames_of frames.new)) }
 {
     match frames.pop() {
         Some(frame) => add_argument(frames, frame, operand),
-        None => {
-            drop(operand);
-            Ok(())
-        }
+        None => Ok(operand.tree),
     }
 }
 
-// A name becomes a call. Once the name is taken out, its node holds nothing that has to be let go.
-fn first_argument(alloc: Global, frames: &mut Frames, operand: Operand) -> Result<(), AllocError>
+// A name becomes a call, and its box is given. Once the name is taken out, its node holds nothing that has to be let
+// go.
+#[inline(always)]
+fn first_argument(
+    alloc: Global,
+    frames: &mut Frames,
+    operand: Operand,
+) -> Result<Box<RawExpr>, AllocError>
     requires name { is_name (operand_expr operand) ≡ true }
     requires no_call { in_call (frames_of frames.old) ≡ false }
     requires may { 1 < top_bound (frames_of frames.old) }
@@ -77,32 +109,25 @@ fn first_argument(alloc: Global, frames: &mut Frames, operand: Operand) -> Resul
         RawNode::Name(name) => {
             let name = mem::replace(name, Name::empty());
             mem::forget(mem::replace(&mut tree.node, RawNode::Bool(false)));
-            frames.push(Frame::InArgument(at, name, Operands::empty(alloc), tree))
+            open_call(frames, at, name, Operands::empty(alloc), tree)
         }
-        RawNode::Num(_, _) | RawNode::Pow(_, _) | composite!() => {
-            drop(tree);
-            Ok(())
-        }
+        RawNode::Num(_, _) | RawNode::Pow(_, _) | composite!() => Ok(tree),
     }
 }
 
 // The operand becomes the function or an argument of a call, or is handed back.
-fn argument(
-    alloc: Global,
-    frames: &mut Frames,
-    operand: Operand,
-) -> Result<Option<Operand>, AllocError>
-    ensures { IfOk result (λ o. Argued (frames_of frames.old) (operand_expr operand) o (frames_of frames.new)) }
+#[inline(always)]
+fn argument(alloc: Global, frames: &mut Frames, operand: Operand) -> Result<Before, AllocError>
+    ensures { IfOk result
+        (λ before. Argued (frames_of frames.old) (operand_expr operand) before (frames_of frames.new)) }
 {
     if in_call(frames) {
-        more_arguments(frames, operand)?;
-        return Ok(None);
+        return Ok(Before::Called(more_arguments(frames, operand)?));
     }
     if operand.is_name() && frames.bound() > 1 {
-        first_argument(alloc, frames, operand)?;
-        return Ok(None);
+        return Ok(Before::Called(first_argument(alloc, frames, operand)?));
     }
-    Ok(Some(operand))
+    Ok(Before::Back(operand))
 }
 
 /// A token that begins an atom, after an operand: the operand is a function or an argument of a call, and the atom is
@@ -122,8 +147,11 @@ pub fn begin_argument(
         (begin_in (argument (open_in begun.old) (operand_expr operand)) kind at)) }
 {
     match argument(alloc, &mut begun.frames, operand)? {
-        None => begin(alloc, begun, kind, at),
-        Some(operand) => Ok(Step::Stops(whole(alloc, &mut begun.frames, operand)?)),
+        Before::Called(room) => {
+            drop(room);
+            begin(alloc, begun, kind, at)
+        }
+        Before::Back(operand) => Ok(Step::Stops(whole(alloc, &mut begun.frames, operand)?)),
     }
 }
 
@@ -142,11 +170,8 @@ pub fn name_argument(
         (begin_in (argument (open_in begun.old) (operand_expr operand)) (name_token name) at)) }
 {
     match argument(alloc, &mut begun.frames, operand)? {
-        None => {
-            let operand = Operand::name(alloc, at, name)?;
-            Ok(begun.goes(Focus::Read(operand)))
-        }
-        Some(operand) => {
+        Before::Called(room) => Ok(begun.goes(Focus::Read(Operand::named(room, at, name)))),
+        Before::Back(operand) => {
             drop(name);
             Ok(Step::Stops(whole(alloc, &mut begun.frames, operand)?))
         }

@@ -9,7 +9,7 @@ ghost use Rattle.um_forms.specs.ExprForms.{close_after, list_after, record_after
 ghost use Rattle.um_forms.specs.ExprForms.{else_after, with_after, bar_after, mark_ends, word_ends};
 ghost use Rattle.um_forms.specs.ExprSteps.{Simulates, SimulatesAfter};
 
-use crate::wanted::opened;
+use crate::wanted::{opened, opened_here};
 use std::alloc::{AllocError, Global};
 use um_operands::{Begun, Expected, Focus, Frame, Matching, Operand, Step, ended};
 use um_syntax::{Keyword, Symbol};
@@ -87,7 +87,7 @@ fn semicolon(begun: &mut Begun, frame: Frame, inner: Operand) -> Result<Step, Al
         (semi_after (Have (view_frame frame ∷ open_in begun.old) (operand_expr inner)))) }
 {
     match frame {
-        Frame::InItem(at, before) => opened(begun, Frame::InItem(at, before.with(inner)?)),
+        Frame::InItem(at, before) => opened_here(begun, Frame::InItem(at, before.with(inner)?)),
         Frame::InField(at, before, place, name) => {
             let fields = before.with(place, name, inner)?;
             Ok(begun.goes(Focus::Inside(Expected::FieldName(at, fields))))

@@ -39,6 +39,22 @@ pub fn infix_after(
     }
 }
 
+// The same, out of line.
+#[inline(never)]
+fn infix_apart(
+    alloc: Global,
+    begun: &mut Begun,
+    operand: Operand,
+    sign: Infix,
+    at: u32,
+) -> Result<Step, AllocError>
+    ensures { IfOk result
+        (λ s. SimulatesAfter begun.old operand begun.new s
+        (infix_after sign at (reduce (left_limit sign) (open_in begun.old) (operand_expr operand)))) }
+{
+    infix_after(alloc, begun, operand, sign, at)
+}
+
 // `>`
 fn greater_after(
     alloc: Global,
@@ -81,6 +97,7 @@ fn note_opens(begun: &mut Begun, operand: Operand, sign_at: u32) -> Step
 /// only for want of memory.
 ///
 /// Source: the F# specification, Units Of Measure, for the constants with a measure annotation.
+#[inline(always)]
 pub fn less_after(
     alloc: Global,
     begun: &mut Begun,
@@ -95,7 +112,7 @@ pub fn less_after(
     if glued && operand.is_plain_number() {
         Ok(note_opens(begun, operand, at))
     } else {
-        infix_after(alloc, begun, operand, Infix::Compare(Sign::Lt), at)
+        infix_apart(alloc, begun, operand, Infix::Compare(Sign::Lt), at)
     }
 }
 

@@ -83,6 +83,7 @@ fn of_symbol(symbol: Symbol) -> ExprToken
 
 impl ExprToken {
     /// What a token is to expressions. The letters of a name are taken from it, without a copy.
+    #[inline(always)]
     pub fn of_kind(alloc: Global, kind: &mut Kind) -> ExprToken
         ensures token { result ≡ expr_token kind.old }
         ensures emptied { kind.new ≡ emptied_kind kind.old }

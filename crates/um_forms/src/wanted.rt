@@ -16,12 +16,20 @@ use um_syntax::{Keyword, Symbol, Token};
 use um_tree::{Arith, Sign};
 
 /// The form of this frame is open after the token, and an operand is wanted in it. Fails only for want of memory.
-#[inline(never)]
-pub fn opened(begun: &mut Begun, frame: Frame) -> Result<Step, AllocError>
+#[inline(always)]
+pub fn opened_here(begun: &mut Begun, frame: Frame) -> Result<Step, AllocError>
     ensures { IfOk result (λ s. Simulates None begun.new s (Need (view_frame frame ∷ open_in begun.old))) }
 {
     begun.frames.push(frame)?;
     Ok(begun.goes(Focus::Wanted))
+}
+
+/// The same, for frames that aren't opened at most tokens.
+#[inline(never)]
+pub fn opened(begun: &mut Begun, frame: Frame) -> Result<Step, AllocError>
+    ensures { IfOk result (λ s. Simulates None begun.new s (Need (view_frame frame ∷ open_in begun.old))) }
+{
+    opened_here(begun, frame)
 }
 
 // The same for a form of this rank, if it may stand here.
