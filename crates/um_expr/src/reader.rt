@@ -141,6 +141,7 @@ impl ExprReader {
     /// perhaps, and no more. Fails only for want of memory.
     ///
     /// Source: the grammar of expressions in the F# specification, for the forms that this language has.
+    #[inline(always)]
     pub fn take(&mut self, alloc: Global, token: &mut Token) -> Result<Taken, AllocError>
         requires low { whole_least (expr_state self.old) ≤ greatest_height }
         ensures taken { IfOk result

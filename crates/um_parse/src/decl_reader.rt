@@ -160,6 +160,7 @@ impl DeclReader {
 
     /// One token more. A token that is refused still begins a declaration as it did, though its letters may be gone.
     /// Most tokens stand in functions.
+    #[inline(always)]
     pub fn take(&mut self, alloc: Global, token: &mut Token) -> Result<Taken, AllocError>
         requires low { decl_least (reader_state self.old) ≤ greatest_height }
         ensures taken { IfOk result (λ t.
