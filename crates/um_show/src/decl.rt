@@ -1,5 +1,5 @@
 // The texts of declarations and programs.
-ghost use Rattle.std.specs.Prelude.{◌≡◌, ◌++◌, IfOk, OnOk, map};
+ghost use Rattle.std.specs.Prelude.{◌≡◌, ◌++◌, [], IfOk, OnOk, map};
 ghost use Rattle.std.specs.List.{flat_map, join_by};
 ghost use Rattle.um_tree.specs.RawTree.{var_syntax, field_decl_syntax, param_syntax, written_type};
 ghost use Rattle.um_tree.specs.RawTree.{whole_function_syntax, decl_syntax};
@@ -17,6 +17,12 @@ use std::alloc::{AllocError, Global};
 use um_tree::{Name, RawDecl, RawFieldDecl, RawFunction, RawParam, RawProgram, RawType, RawVar};
 use um_units::NoMemory;
 
+// The most bytes for which room is made before a program is written: a text that is read has no more.
+const MOST_ROOM: u32 = 1_048_576;
+
+// The room that is made for the last declaration.
+const LAST_ROOM: usize = 4096;
+
 /// The text of a program in its layout: one declaration a line, with a line feed behind each.
 ///
 /// Comments and places are not in the tree, so they are dropped. `NoMemory` is its one error. The layout is this
@@ -33,9 +39,34 @@ pub fn program_text(alloc: Global, raw: &RawProgram) -> Result<Vec<u8>, NoMemory
 pub fn layout_text(alloc: Global, raw: RawProgram) -> Result<Vec<u8>, NoMemory>
     ensures { IfOk result (λ text. text.items ≡ layout (program_syntax raw)) }
 {
+    match room_for(alloc, &raw.items) {
+        Ok(mut text) => {
+            push_each(&mut text, raw.items)?;
+            Ok(text)
+        }
+        Err(error) => {
+            drop(raw);
+            Err(error)
+        }
+    }
+}
+
+// No text, with room for about as many bytes as the written text has.
+fn room_for(alloc: Global, decls: &[RawDecl]) -> Result<Vec<u8>, AllocError>
+    ensures { IfOk result (λ text. text.items ≡ []) }
+{
     let mut text = Vec::new(alloc);
-    push_each(&mut text, raw.items)?;
+    text.reserve(last_place(decls).min(MOST_ROOM) as usize + LAST_ROOM)?;
     Ok(text)
+}
+
+// The place of the name of the last declaration.
+fn last_place(decls: &[RawDecl]) -> u32 {
+    match decls.last() {
+        Some(RawDecl::Base(at, _) | RawDecl::Short(at, _, _) | RawDecl::Record(at, _, _, _)) => *at,
+        Some(RawDecl::Function(function)) => function.at,
+        None => 0,
+    }
 }
 
 fn push_each(text: &mut Vec<u8>, decls: Vec<RawDecl>) -> Result<(), AllocError>
