@@ -64,3 +64,17 @@ focus_height focus.Empty = 1
 focus_height (focus.Full t) = unit_height (operand_syntax t)
 focus_height (focus.Raised t) = unit_height (operand_syntax t) + 1
 focus_height (focus.Lowered t) = unit_height (operand_syntax t) + 1
+
+-- whether an atom or a power was read
+abbrev pub is_full : Focus → Bool
+is_full (focus.Full t) = true
+is_full _ = false
+
+-- whether the innermost frame is brackets
+abbrev pub in_bracket : List Frame → Bool
+in_bracket [] = false
+in_bracket (InBracket at ∷ frames) = true
+in_bracket (InInverse at ∷ frames) = false
+in_bracket (InTimes left ∷ frames) = false
+in_bracket (InOver left ∷ frames) = false
+in_bracket (InSide earlier ∷ frames) = false

@@ -49,13 +49,19 @@ impl Frames {
     }
 
     /// Opens a frame.
+    #[inline(always)]
     pub fn push(&mut self, frame: Frame) -> Result<(), AllocError>
         ensures { OnOk result (frames_of self.new ≡ view_frame frame ∷ frames_of self.old) }
     {
         let own = counted_sum(one_higher(frame.side()), self.count());
         let least = higher(self.least(), own);
-        self.entries.push(Entry { frame, least })?;
-        Ok(())
+        match self.entries.reserve(1) {
+            Ok(()) => Ok(self.entries.push_reserved(Entry { frame, least })),
+            Err(error) => {
+                drop(frame);
+                Err(error)
+            }
+        }
     }
 
     /// Takes off the innermost frame.

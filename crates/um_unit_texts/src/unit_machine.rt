@@ -1,12 +1,15 @@
 // Reading a unit text token by token.
 ghost use Rattle.std.specs.Prelude.{◌≡◌, ◌<◌, IfOk, IfSome, IfNone, OnOk, Some, None, option_map, vec_len, pos};
-ghost use Rattle.um_unit_texts.specs.UnitTokens.{unit_token, power_of};
+ghost use Rattle.std.specs.Prelude.{true};
+ghost use Rattle.um_unit_texts.specs.UnitTokens.{unit_token, power_of, sign as sign_token};
 ghost use Rattle.um_unit_texts.specs.UnitMachine.{Need, sign_after, Have, Raised, Lowered, reduce, juxtapose, begin};
 ghost use Rattle.um_unit_texts.specs.UnitMachine.{raise, raised};
 ghost use Rattle.um_unit_texts.specs.UnitMachine.{lowered, close_after, opens, after, act, finish, atom_of, power_in};
 ghost use Rattle.um_unit_texts.specs.UnitMachine.{is_atom, is_foreign};
 ghost use Rattle.um_unit_texts.specs.UnitFrames.{operand_syntax};
 ghost use Rattle.um_unit_texts.specs.UnitView.{frames_of, state_of, Simulates, Keeps, Ended, Unbracketed, ends_itself};
+ghost use Rattle.um_unit_texts.specs.UnitView.{is_full, in_bracket};
+ghost use Rattle.um_vocabulary.specs.declared.vocabulary.Symbol.TheVariants as symbol;
 
 use crate::unit_frame::{Focus, Frame, Step};
 use crate::unit_frames::Frames;
@@ -45,8 +48,9 @@ fn pop_ended(frames: &mut Frames) -> Option<Frame>
     }
 }
 
-// Ends all frames up to the innermost brackets.
-fn ended(alloc: Global, frames: &mut Frames, operand: Operand) -> Result<Operand, AllocError>
+// Ends all frames up to the innermost brackets, one after the other.
+#[inline(never)]
+fn end_frames(alloc: Global, frames: &mut Frames, operand: Operand) -> Result<Operand, AllocError>
     ensures { IfOk result
         (λ t. Have (frames_of frames.new) (operand_syntax t) ≡ reduce (frames_of frames.old) (operand_syntax operand)) }
 {
@@ -55,6 +59,19 @@ fn ended(alloc: Global, frames: &mut Frames, operand: Operand) -> Result<Operand
         operand = frame.plug(alloc, operand)?;
     }
     Ok(operand)
+}
+
+// Ends all frames up to the innermost brackets. Mostly there are none to end.
+#[inline(always)]
+fn ended(alloc: Global, frames: &mut Frames, operand: Operand) -> Result<Operand, AllocError>
+    ensures { IfOk result
+        (λ t. Have (frames_of frames.new) (operand_syntax t) ≡ reduce (frames_of frames.old) (operand_syntax operand)) }
+{
+    if ends_itself(frames) {
+        end_frames(alloc, frames, operand)
+    } else {
+        Ok(operand)
+    }
 }
 
 /// Whether a unit text begins here.
@@ -207,6 +224,7 @@ fn step_lowered(
 }
 
 // The place of the innermost frame, if it is brackets, which are taken off.
+#[inline(always)]
 fn pop_bracket(frames: &mut Frames) -> Option<u32>
     ensures { Unbracketed (frames_of frames.old) result (frames_of frames.new) }
 {
@@ -339,8 +357,52 @@ pub fn is_foreign(kind: &Kind) -> bool
     }
 }
 
-/// One token more, which stays as it was if it is refused. What stands in focus goes on in its place.
-pub fn step(
+// Whether the innermost frame is brackets.
+#[inline(always)]
+fn in_bracket(frames: &Frames) -> bool
+    ensures { result ≡ in_bracket (frames_of frames.now) }
+{
+    match frames.entries.last() {
+        Some(entry) => match &entry.frame {
+            Frame::InBracket(_) => true,
+            _ => false,
+        },
+        None => false,
+    }
+}
+
+// `)` after an atom or a power that stands in brackets.
+#[inline(never)]
+fn close_bracket(alloc: Global, frames: &mut Frames, focus: &mut Focus) -> Result<Step, AllocError>
+    requires full { is_full focus.old ≡ true }
+    requires inner { in_bracket (frames_of frames.old) ≡ true }
+    ensures { IfOk result
+        (λ s. Simulates (state_of frames.old focus.old) frames.new focus.new s
+        (act (state_of frames.old focus.old) (sign_token symbol.RightParen) 0)) }
+{
+    match mem::replace(focus, Focus::Empty) {
+        Focus::Full(operand) => match pop_bracket(frames) {
+            Some(at) => {
+                let next = Focus::Full(operand.bracket(alloc, at)?);
+                mem::forget(mem::replace(focus, next));
+                Ok(Step::Goes)
+            }
+            None => {
+                drop(operand);
+                Ok(Step::Stops)
+            }
+        },
+        Focus::Empty => Ok(Step::Stops),
+        Focus::Raised(base) | Focus::Lowered(base) => {
+            drop(base);
+            Ok(Step::Stops)
+        }
+    }
+}
+
+// One token more, for which what stands in focus is moved out.
+#[inline(never)]
+fn step_moved(
     alloc: Global,
     frames: &mut Frames,
     focus: &mut Focus,
@@ -356,6 +418,36 @@ pub fn step(
         Focus::Full(operand) => step_full(alloc, frames, focus, operand, token),
         Focus::Raised(base) => step_raised(alloc, frames, focus, base, token),
         Focus::Lowered(base) => step_lowered(alloc, frames, focus, base, token),
+    }
+}
+
+/// One token more, which stays as it was if it is refused. What stands in focus goes on in its place. Brackets, of which
+/// there may be many, move as little as can be.
+#[inline(always)]
+pub fn step(
+    alloc: Global,
+    frames: &mut Frames,
+    focus: &mut Focus,
+    token: &mut Token,
+) -> Result<Step, AllocError>
+    ensures state { IfOk result
+        (λ s. Simulates (state_of frames.old focus.old) frames.new focus.new s
+        (act (state_of frames.old focus.old) (unit_token token.old.kind) token.old.start)) }
+    ensures kept { IfOk result (λ s. Keeps s token.old token.new) }
+{
+    match focus {
+        Focus::Empty => step_empty(alloc, frames, focus, token),
+        Focus::Full(_) => match &token.kind {
+            Kind::Sign(Symbol::RightParen) => {
+                if in_bracket(frames) {
+                    close_bracket(alloc, frames, focus)
+                } else {
+                    step_moved(alloc, frames, focus, token)
+                }
+            }
+            _ => step_moved(alloc, frames, focus, token),
+        },
+        Focus::Raised(_) | Focus::Lowered(_) => step_moved(alloc, frames, focus, token),
     }
 }
 

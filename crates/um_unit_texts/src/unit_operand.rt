@@ -74,6 +74,7 @@ impl Operand {
     }
 
     /// In brackets
+    #[inline(always)]
     pub fn bracket(self, alloc: Global, at: u32) -> Result<Operand, AllocError>
         ensures { IfOk result (λ p. operand_syntax p ≡ bracket_syntax at (operand_syntax self)) }
     {

@@ -2,7 +2,7 @@ use Rattle.std.proofs.Common.{◌≡◌, vec_len}
 use Rattle.um_unit_texts.specs.UnitFrames.{operand_syntax}
 use Rattle.um_unit_texts.specs.UnitView.{frames_of}
 use Rattle.um_unit_texts.specs.UnitMachine.{reduce}
-use Rattle.um_unit_texts.proofs.unit_machine.ended.Given as goal
+use Rattle.um_unit_texts.proofs.unit_machine.end_frames.Given as goal
 
 abbrev pub invariant-loop-frame : goal.invariant-loop-frame
 invariant-loop-frame l = reduce (frames_of l.frames) (operand_syntax l.operand) ≡ reduce (frames_of l.fn.frames) (operand_syntax l.fn.operand)
