@@ -53,7 +53,7 @@ pub fn expected(
         Ok(prefix) => {
             let trial = Trial::new(before, prefix, at, glued);
             let told = told_at(alloc, &trial);
-            drop(trial);
+            trial.discard();
             told
         }
         Err(error) => {

@@ -43,6 +43,13 @@ impl Trial {
         }
     }
 
+    /// Gives its memory back.
+    pub(crate) fn discard(self) {
+        let Trial { before, prefix, .. } = self;
+        drop(before);
+        prefix.discard();
+    }
+
     /// The tokens before the place. Takes no memory.
     pub(crate) fn before(&self) -> &[Token]
         ensures { result.now ≡ self.now.before }

@@ -68,4 +68,9 @@ impl Prefix {
     {
         self.reader.is_whole()
     }
+
+    /// Gives its memory back. A crate that calls this has no proof of its own of how readers and trees are let go.
+    pub fn discard(self) {
+        drop(self);
+    }
 }
