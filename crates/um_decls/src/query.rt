@@ -1,4 +1,4 @@
-// Whether a token goes on at each place of a record or a function. It isn't taken, and nothing changes.
+// Whether a token would go on at each place of a record or a function. It isn't taken, and nothing changes.
 ghost use Rattle.std.specs.Prelude.{◌≡◌, ◌&&◌, ◌||◌, ℕ, List, Some, false, is_some, true};
 ghost use Rattle.um_tree.specs.RawTree.{BinderSyntax, FieldDeclSyntax, ParamSyntax, TypeSyntax, VarSyntax};
 ghost use Rattle.um_types.specs.TypeMachine.{type_act, type_finish};
@@ -16,7 +16,7 @@ use um_types::TypeReader;
 
 // ---- in a type
 
-// Whether a token goes on with a type, or with what follows a whole type, if `ends` says that it may end one.
+// Whether a token goes on with a type, or ends a whole one. `ends` says whether it may end one.
 fn goes_in_type(ty: &TypeReader, kind: &Kind, ends: bool) -> bool
     ensures { (p : ℕ) → result ≡ (type_stands (type_act (type_state ty.now) kind.now p)
         || (is_some (type_finish (type_state ty.now)) && ends)) }

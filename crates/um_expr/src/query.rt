@@ -1,4 +1,4 @@
-// Whether an expression goes on with a token, which isn't taken.
+// Whether an expression would go on with a token. It isn't taken, and nothing changes.
 ghost use Rattle.std.specs.Prelude.{◌≡◌, ℕ, Bool, List, None, Some, is_some};
 ghost use Rattle.um_frac.specs.declared.number.Frac.{Frac};
 ghost use Rattle.um_unit_texts.specs.UnitTokens.{unit_token};
@@ -180,7 +180,7 @@ pub fn can_take(begun: &Begun, kind: &Kind, glued: bool) -> bool
     }
 }
 
-// Whether no frame is left that a token would have to end.
+// Whether no frame is open that only a token ends.
 fn none_is_left(frames: &Frames) -> bool
     ensures { (t : ExprSyntax) → result ≡ is_some (whole (reduce 9 (frames_of frames.now) t)) }
 {

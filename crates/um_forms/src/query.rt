@@ -1,4 +1,4 @@
-// Whether a token goes on, form by form. It isn't taken, and nothing changes.
+// Whether a token would go on, form by form. It isn't taken, and nothing changes.
 ghost use Rattle.std.specs.Prelude.{◌≡◌, ◌∷◌, ℕ, List, None, is_some};
 ghost use Rattle.um_tree.specs.RawTree.{ExprSyntax};
 ghost use Rattle.um_operands.specs.Ranks.{left_limit};
@@ -24,7 +24,7 @@ use um_unit_texts::written_power;
 
 // ---- where an operand is wanted
 
-// A reserved word where what stands has a rank below this bound.
+// A reserved word where an operand is wanted whose rank lies below this bound.
 fn can_begin_word(bound: u8, keyword: Keyword) -> bool
     ensures { (frames : List OpenFrame) (at : ℕ) → bound ≡ top_bound frames
         → result ≡ stands (begin frames (keyword_token keyword) at) }
@@ -37,7 +37,7 @@ fn can_begin_word(bound: u8, keyword: Keyword) -> bool
     }
 }
 
-// A sign there. `empty` says whether `]` may stand there.
+// A sign where an operand is wanted. `empty` says whether `]` may stand there.
 fn can_begin_sign(bound: u8, empty: bool, symbol: Symbol) -> bool
     ensures { (frames : List OpenFrame) (at : ℕ) → bound ≡ top_bound frames → empty ≡ stands (empty_list frames)
         → result ≡ stands (begin frames (symbol_token symbol) at) }
@@ -169,7 +169,7 @@ pub fn can_be_less(frames: &Frames, operand: &Operand, glued: bool) -> bool
 
 // ---- inside a fixed run of tokens
 
-// The sign that is expected, where one is.
+// Whether this sign is expected.
 fn is_expected_sign(wanted: &Expected, symbol: Symbol) -> bool
     ensures { (frames : List OpenFrame) (at : ℕ) → result
         ≡ stands (inside frames (view_expected wanted.now) (symbol_token symbol) at None) }
@@ -218,7 +218,7 @@ fn expects_name(wanted: &Expected) -> bool
     }
 }
 
-// Whether the power of `pown` is expected, in brackets after its sign.
+// Whether the digits of a power of `pown` are expected, in brackets after its sign.
 fn expects_digits(wanted: &Expected) -> bool
     ensures { result ≡ expects_digits (view_expected wanted.now) }
 {

@@ -1,4 +1,4 @@
--- Whether a token goes on, and what is open once the frames that need no token to end have ended.
+-- Whether a token goes on, and which frames are left once those that need no token to end have ended.
 -- Source: this project's own.
 use Rattle.std.specs.Prelude.{ℕ, Bool, true, false, cond, nat_lt, List, [], ◌∷◌}
 use Rattle.um_operands.specs.ExprBegun.{Frame, State, Refused, own_rank}

@@ -1,4 +1,4 @@
-// The frames that are left once those that need no token to end have ended. They don't end.
+// The frames that would be left once those that need no token to end had ended. Nothing ends here.
 ghost use Rattle.std.specs.Prelude.{◌≡◌, ◌≤◌, length, take};
 ghost use Rattle.um_operands.specs.ExprBegun.{top_bound};
 ghost use Rattle.um_operands.specs.ExprFrames.{stack};
@@ -7,7 +7,7 @@ ghost use Rattle.um_operands.specs.Standing.{left};
 
 use crate::frames::Frames;
 
-/// How many frames are left once the innermost up to this rank have ended, of those that need no token to end.
+/// How many frames are left once all up to this rank have ended, from the innermost out.
 pub fn frames_left(frames: &Frames, limit: u8) -> usize
     ensures left { stack (take result frames.now.entries.items) ≡ left limit (frames_of frames.now) }
     ensures within { result ≤ length frames.now.entries.items }
@@ -20,7 +20,7 @@ pub fn frames_left(frames: &Frames, limit: u8) -> usize
     0
 }
 
-/// The rank of what stands in the innermost of those that are left lies below this.
+/// The rank of what stands in the innermost frame that is left lies below this.
 pub fn bound_left(frames: &Frames, limit: u8) -> u8
     ensures { result ≡ top_bound (left limit (frames_of frames.now)) }
 {
