@@ -18,7 +18,8 @@ use std::alloc::{AllocError, Global};
 use um_reader::{Reader, Taken};
 use um_syntax::{Kind, Token};
 
-/// Tokens that begin a program, which were read.
+/// Tokens that begin a program, which were read: a viable prefix, as in Knuth, On the Translation of Languages from Left
+/// to Right.
 #[derive(Drop)]
 pub struct Prefix {
     reader: ProgramReader,
@@ -40,7 +41,8 @@ fn take_copy(alloc: Global, reader: &mut ProgramReader, token: &Token) -> Result
 }
 
 impl Prefix {
-    /// These tokens, which begin a program within the heights, are read. Fails only for want of memory.
+    /// Reads these tokens, which begin a program within the heights. It takes a copy of each. Want of memory is the one
+    /// error.
     pub fn read(alloc: Global, tokens: &[Token]) -> Result<Prefix, AllocError>
         requires begins { BeginsTextWithin IsProgram program_height greatest_height tokens.now }
         ensures read { IfOk result (λ prefix. HasRead prefix tokens.now) }
@@ -52,8 +54,8 @@ impl Prefix {
         Ok(Prefix { reader })
     }
 
-    /// Whether the tokens and one of this kind, glued to the last or not, begin a program. No height is asked for. It
-    /// takes no memory, and the time of the forms that are open.
+    /// Whether the tokens and one more of this kind, glued to the last or not, begin a program of any height. It takes no
+    /// memory, and time for the forms that are open alone.
     pub fn goes_on(&self, kind: &Kind, glued: bool) -> bool
         ensures { (tokens : List Token) (token : Token) → HasRead self.now tokens → token.kind ≡ kind.now
             → token.glued ≡ glued → Decides result (BeginsText IsProgram (tokens ++ token ∷ [])) }
@@ -61,7 +63,7 @@ impl Prefix {
         self.reader.can_take(kind, glued)
     }
 
-    /// Whether the tokens are a program.
+    /// Whether the tokens are a program. It takes no memory.
     pub fn is_whole(&self) -> bool
         ensures { (tokens : List Token) → HasRead self.now tokens
             → Decides result ((ds : List DeclSyntax) × IsProgram tokens ds) }
