@@ -89,6 +89,7 @@ impl FunctionBody {
     }
 
     // Another body begins after this result type. The result type before was taken out when its function ended.
+    #[inline(always)]
     fn restart(&mut self, ty: Option<RawType>)
         requires low { result_height (written_type ty) ≤ greatest_height }
         ensures written { self.new.result ≡ ty }
@@ -314,6 +315,7 @@ impl FunctionReader {
     }
 
     // From now on the body is read.
+    #[inline(always)]
     fn begin_body(&mut self, ty: Option<RawType>) -> Taken
         requires low { result_height (written_type ty) ≤ greatest_height }
         ensures { Gives machine_of_declarations greatest_height NoDecl
@@ -392,7 +394,7 @@ impl FunctionReader {
     {
         match &token.kind {
             Kind::Sign(Symbol::LeftParen) => {
-                self.set(FunctionExpected::Binder);
+                self.begin_param();
                 Taken::Goes
             }
             Kind::Sign(Symbol::Colon) => {
@@ -402,6 +404,13 @@ impl FunctionReader {
             Kind::Sign(Symbol::Equal) => self.take_equal(),
             _ => Taken::Stops,
         }
+    }
+
+    // From now on a parameter is read, at its binder.
+    fn begin_param(&mut self)
+        ensures { function_state self.new ≡ Expects (ParamBinder (start_in self.old) (read_params self.old)) }
+    {
+        self.set(FunctionExpected::Binder);
     }
 
     // `=` after the parameters: a function with `rec` has a result type.

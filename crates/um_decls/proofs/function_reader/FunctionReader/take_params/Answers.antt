@@ -14,7 +14,7 @@ returns-in-Sign-LeftParen c =
     let s = start_in old in
     let ps = read_params old in
     let paren : c.args.token.now.kind ≡ kind.Sign symbol.LeftParen = search rules in
-    goes_on NoDecl _ (Expects (ParamBinder s ps)) _ c.set.ensures (ap (λ k. take_params s ps (expr_token k)) paren) (λ e. cc) (omega (arith, old.low))
+    goes_on NoDecl _ (Expects (ParamBinder s ps)) _ c.begin_param.ensures (ap (λ k. take_params s ps (expr_token k)) paren) (λ e. cc) (omega (arith, old.low))
 
 pub returns-in-Sign-Colon : goal.returns-in-Sign-Colon
 returns-in-Sign-Colon c =
