@@ -13,6 +13,7 @@ ghost use Rattle.um_decls.specs.DeclStanding.{decl_stands};
 ghost use Rattle.um_decls.specs.DeclLeast.{decl_least, machine_of_declarations};
 ghost use Rattle.um_decls.specs.DeclTakes.{Ends};
 ghost use Rattle.um_decls.specs.DeclTokens.{BeginsAlike, IfStops};
+ghost use Rattle.um_decls.specs.DeclViews.{function_state};
 ghost use Rattle.um_parse.specs.ReaderStates.{view_fixed, view_expected, place_state, reader_state, base_step};
 
 use crate::decl_begin::{after_token, begins_short, can_take_at};
@@ -84,6 +85,21 @@ fn end_short(
             Err(error)
         }
     }
+}
+
+// One token more of a function. Out of line, so that other places take their tokens without its registers.
+#[inline(never)]
+fn take_in_function(
+    function: &mut FunctionReader,
+    alloc: Global,
+    token: &mut Token,
+) -> Result<Taken, AllocError>
+    requires low { decl_least (function_state function.old) ≤ greatest_height }
+    ensures taken { IfOk result (λ t. Takes machine_of_declarations greatest_height (function_state function.old)
+        token.old t (function_state function.new)) }
+    ensures kept { IfOk result (λ t. IfStops t (BeginsAlike token.new token.old)) }
+{
+    function.take(alloc, token)
 }
 
 // No declaration ends here.
@@ -182,7 +198,7 @@ impl DeclReader {
         ensures kept { IfOk result (λ t. IfStops t (BeginsAlike token.new token.old)) }
     {
         match &mut self.place {
-            DeclPlace::Function => self.function.take(alloc, token),
+            DeclPlace::Function => take_in_function(&mut self.function, alloc, token),
             DeclPlace::Record(record) => record.take(alloc, token),
             DeclPlace::Short(_, _, unit) => take_in_unit(unit, alloc, token),
             DeclPlace::Nothing => Ok(Taken::Stops),
@@ -218,7 +234,7 @@ impl DeclReader {
     }
 
     // The token before the name, or the name.
-    #[inline(never)]
+    #[inline(always)]
     fn take_at(
         &mut self,
         alloc: Global,

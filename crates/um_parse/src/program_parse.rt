@@ -2,20 +2,17 @@
 ghost use Rattle.std.specs.Prelude.{◌≡◌, ◌<◌, ◌≤◌, ◌^◌, true, IfOk, Err, length};
 ghost use Rattle.um_tree.specs.RawTree.{program_syntax};
 ghost use Rattle.um_reader.specs.ReadTo.{ReadAll};
-ghost use Rattle.um_reader.specs.Takes.{Takes};
 ghost use Rattle.um_unit_texts.specs.UnitStops.{greatest_height};
 ghost use Rattle.um_parse.specs.DeclGrammar.{IsProgram};
 ghost use Rattle.um_parse.specs.ProgramHeights.{program_height};
-ghost use Rattle.um_parse.specs.ProgramLeast.{program_least, machine_of_programs};
 ghost use Rattle.um_parse.specs.ProgramNodes.{program_nodes};
 ghost use Rattle.um_parse.specs.Spaced.{Spaced};
-ghost use Rattle.um_parse.specs.ReaderStates.{program_state};
 ghost use Rattle.um_parse.specs.Parsed.{Parsed, ReadAt, Limited};
 
 use crate::limits::first_passed;
 use crate::places::Places;
 use crate::program_reader::ProgramReader;
-use std::alloc::{AllocError, Global};
+use std::alloc::Global;
 use um_reader::{ReadStop, Reader, Taken, read_all};
 use um_syntax::{Token, Tokens};
 use um_tree::RawProgram;
@@ -90,18 +87,6 @@ pub struct ReadProgram {
     pub spaced: bool,
 }
 
-// One token more, which is let go at once. The reader moves out of it what it keeps.
-fn take_token(alloc: Global, reader: &mut ProgramReader, token: Token) -> Result<Taken, AllocError>
-    requires low { program_least (program_state reader.old) ≤ greatest_height }
-    ensures { IfOk result (λ t. Takes machine_of_programs greatest_height (program_state reader.old) token t
-        (program_state reader.new)) }
-{
-    let mut token = token;
-    let taken = reader.take(alloc, &mut token);
-    drop(token);
-    taken
-}
-
 // Nothing more is read.
 fn stopped(reader: ProgramReader, stop: ParseStop) -> Result<ReadProgram, ParseStop>
     ensures { result ≡ Err stop }
@@ -116,17 +101,24 @@ fn read_tokens(alloc: Global, tokens: Tokens, end: u32) -> Result<ReadProgram, P
 {
     let mut reader = ProgramReader::new(alloc);
     let mut places = Places::none();
-    for token in tokens.into_vec() {
+    for mut token in tokens.into_vec() {
         let at = token.start;
         places.add(at);
-        match take_token(alloc, &mut reader, token) {
-            Ok(Taken::Goes) => {}
-            Ok(Taken::Stops) => return stopped(reader, ParseStop::Syntax { at }),
+        match reader.take(alloc, &mut token) {
+            Ok(Taken::Goes) => drop(token),
+            Ok(Taken::Stops) => {
+                drop(token);
+                return stopped(reader, ParseStop::Syntax { at });
+            }
             Ok(Taken::High) => {
+                drop(token);
                 let kind = LimitKind::Height;
                 return stopped(reader, ParseStop::Limit { kind, at });
             }
-            Err(_) => return stopped(reader, ParseStop::NoMemory),
+            Err(_) => {
+                drop(token);
+                return stopped(reader, ParseStop::NoMemory);
+            }
         }
     }
     let spaced = places.rise_to(end);

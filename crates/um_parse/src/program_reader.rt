@@ -136,6 +136,7 @@ impl Reader for ProgramReader {
         }
     }
 
+    #[inline(always)]
     fn take(&mut self, alloc: Global, token: &mut Token) -> Result<Taken, AllocError>
         requires low { program_least (program_state self.old) ≤ greatest_height }
         ensures taken { IfOk result

@@ -15,8 +15,8 @@ use Rattle.um_parse.proofs.program_parse.read_tokens.Goals as goal
 pub loop-token-init : goal.loop-token-init
 loop-token-init c = (((omega arith, (λ e. cc), omega arith), c.new-reader.ensures.start), λ rise. omega arith)
 
-pub take_token-requires : goal.take_token-requires
-take_token-requires c = record { low = subst (λ s. program_least s ≤ greatest_height) (sym c.loop-token.invariant.0.1) c.loop-token.invariant.0.0.2 }
+pub take-requires : goal.take-requires
+take-requires c = record { low = subst (λ s. program_least s ≤ greatest_height) (sym c.loop-token.invariant.0.1) c.loop-token.invariant.0.0.2 }
 
 pub loop-token-preserved : goal.loop-token-preserved
 loop-token-preserved c =
@@ -24,9 +24,9 @@ loop-token-preserved c =
     let x = c.in-Some.token in
     let turn = YieldsList-turn (YieldsList-from_vec {s = c.into_iter-token-iterator.result} tokens (search rules) (search rules))
     c.loop-token.yielded c.loop-token.token-iterator c.loop-token.yielded_by c.next.result c.next.new.self x c.in-Some.is c.next.ensures.steps in
-    let given = rw c.in-Ok-Goes.field-0-is at c.in-Ok-Goes.ensures in (
-      subst (λ k. StandsAt tokens k (program_state c.take_token.new.reader)) (sym (length_push c.loop-token.yielded x))
-          (goes machine_of_programs greatest_height tokens (length c.loop-token.yielded) x (program_state c.loop-token.reader) (program_state c.take_token.new.reader) turn.0 (sym turn.1) c.loop-token.invariant.0 given),
+    let given = rw c.in-Ok-Goes.field-0-is at c.in-Ok-Goes.ensures.taken in (
+      subst (λ k. StandsAt tokens k (program_state c.take.new.self)) (sym (length_push c.loop-token.yielded x))
+          (goes machine_of_programs greatest_height tokens (length c.loop-token.yielded) x (program_state c.loop-token.reader) (program_state c.take.new.self) turn.0 (sym turn.1) c.loop-token.invariant.0 given),
       λ rise. let k = c.add.ensures.rise rise in subst (Rises 0 (c.loop-token.yielded ++ x ∷ [])) (sym c.add.ensures.next) (rises_on 0 c.loop-token.places.next c.loop-token.yielded x (c.loop-token.invariant.1 k.0) k.1),
     )
 
@@ -36,9 +36,9 @@ returns-in-Ok-Stops c =
     let x = c.in-Some.token in
     let turn = YieldsList-turn (YieldsList-from_vec {s = c.into_iter-token-iterator.result} tokens (search rules) (search rules))
     c.loop-token.yielded c.loop-token.token-iterator c.loop-token.yielded_by c.next.result c.next.new.self x c.in-Some.is c.next.ensures.steps in
-    let given = rw c.in-Ok-Stops.field-0-is at c.in-Ok-Stops.ensures in
+    let given = rw c.in-Ok-Stops.field-0-is at c.in-Ok-Stops.ensures.taken in
     rw c.stopped.ensures
-    (refused_at tokens c.args.end (length c.loop-token.yielded) x (program_state c.loop-token.reader) (program_state c.take_token.new.reader) turn.0 (sym turn.1) c.loop-token.invariant.0 given)
+    (refused_at tokens c.args.end (length c.loop-token.yielded) x (program_state c.loop-token.reader) (program_state c.take.new.self) turn.0 (sym turn.1) c.loop-token.invariant.0 given)
 
 pub returns-in-Ok-High : goal.returns-in-Ok-High
 returns-in-Ok-High c =
@@ -46,9 +46,9 @@ returns-in-Ok-High c =
     let x = c.in-Some.token in
     let turn = YieldsList-turn (YieldsList-from_vec {s = c.into_iter-token-iterator.result} tokens (search rules) (search rules))
     c.loop-token.yielded c.loop-token.token-iterator c.loop-token.yielded_by c.next.result c.next.new.self x c.in-Some.is c.next.ensures.steps in
-    let given = rw c.in-Ok-High.field-0-is at c.in-Ok-High.ensures in
+    let given = rw c.in-Ok-High.field-0-is at c.in-Ok-High.ensures.taken in
     rw c.stopped-in-Ok-High.ensures
-    (high_at tokens c.args.end (length c.loop-token.yielded) x (program_state c.loop-token.reader) (program_state c.take_token.new.reader) turn.0 (sym turn.1) c.loop-token.invariant.0 given)
+    (high_at tokens c.args.end (length c.loop-token.yielded) x (program_state c.loop-token.reader) (program_state c.take.new.self) turn.0 (sym turn.1) c.loop-token.invariant.0 given)
 
 pub returns-in-Ok-Some : goal.returns-in-Ok-Some
 returns-in-Ok-Some c =
