@@ -142,6 +142,7 @@ fn push_record(
 }
 
 /// Adds unit parameters in angle brackets, where there are some.
+#[inline(always)]
 fn push_vars(text: &mut Vec<u8>, vars: &[RawVar]) -> Result<(), AllocError>
     ensures { OnOk result (text.new.items ≡ text.old.items ++ text_of (var_list_pieces (map var_syntax vars.now))) }
 {
