@@ -5,6 +5,18 @@ from collections import namedtuple
 
 VEHICLE = os.path.join(os.path.dirname(os.path.abspath(__file__)), "..", "examples", "vehicle.um")
 DECLARED = re.compile(r"(?:type|let rec|let) ([A-Za-z]+)|[{;] ([a-z]+):")
+MEASURES = "".join("[<Measure>] type %s\n" % name for name in ("m", "s", "kg")) + "[<Measure>] type J = kg m^2/s^2\n"
+MODEL = """
+// number {0}
+let rec total{0} (l: num<_> list) : num<_> =
+  match l with
+  | [] -> 0<_>
+  | x :: r -> x + total{0} r
+let kinetic{0} (mass: num<kg>) (speed: num<m/s>) : num<J> =
+  let square = speed * speed in
+  mass * square / 2
+let higher{0} (h: num<m>) (t: num<s>) = 1.50<m> + h < 9.8<m/s^2> * t * t / 2
+"""
 
 
 def copies(count):
@@ -14,6 +26,16 @@ def copies(count):
     names = {name for pair in DECLARED.findall(model) for name in pair if name}
     name = re.compile(r"\b(%s)\b" % "|".join(sorted(names)))
     return "".join(name.sub(r"\g<1>%d" % copy, model) for copy in range(count))
+
+
+def models(lines):
+    """A program of about so many lines as one edits it: a small model again and again, with comments and layout."""
+    return MEASURES + "".join(MODEL.format(number) for number in range(lines // MODEL.count("\n")))
+
+
+def middle_model(lines):
+    """The number of the model in the middle of so many lines."""
+    return lines // MODEL.count("\n") // 2
 
 
 def products(functions):
