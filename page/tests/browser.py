@@ -26,12 +26,26 @@ def expect(found: object, wanted: object, what: str) -> None:
         raise Fault(f"{what}: {found!r} in place of {wanted!r}")
 
 
-def chromium() -> str | None:
+def install(package: str) -> None:
+    """Installs a package of Debian's."""
+    for words in (["update"], ["install", "-y", "--no-install-recommends", package]):
+        try:
+            subprocess.run(["apt-get", "-q", *words], check=True, capture_output=True, text=True)
+        except OSError as fault:
+            raise Fault(f"there is no {package}, and apt-get can't be run: {fault.strerror}") from fault
+        except subprocess.CalledProcessError as fault:
+            said = (fault.stderr.strip() or f"status {fault.returncode}").splitlines()[-1]
+            raise Fault(f"there is no {package}, and 'apt-get {' '.join(words)}' fails: {said}") from fault
+
+
+def chromium() -> str:
     """The browser's path; it is installed if it isn't there."""
     if not shutil.which("chromium"):
-        for words in (["update"], ["install", "-y", "--no-install-recommends", "chromium"]):
-            subprocess.run(["apt-get", "-q", *words], check=True, stdout=subprocess.DEVNULL)
-    return shutil.which("chromium")
+        install("chromium")
+    found = shutil.which("chromium")
+    if not found:
+        raise Fault("there is no chromium on PATH")
+    return found
 
 
 class Programs:
@@ -129,7 +143,9 @@ class Browser:
 class Page:
     """The page in a tab of its own."""
 
-    def __init__(self, browser: Browser, address: str, width: int = 1280, height: int = 800, scheme: str = "light"):
+    def __init__(self, browser: Browser, address: str, width: int = 1280, height: int = 800, scheme: str = "light",
+                 first: str = ""):
+        """Opens the page. `first` is a script that runs before those of the page."""
         self.browser = browser
         self.target = browser.call("Target.createTarget", url="about:blank")["targetId"]
         self.session = browser.call("Target.attachToTarget", targetId=self.target, flatten=True)["sessionId"]
@@ -139,8 +155,12 @@ class Page:
             self.call("Runtime.addBinding", name="askProgram")
         self.call("Emulation.setDeviceMetricsOverride", width=width, height=height, deviceScaleFactor=1, mobile=False)
         self.call("Emulation.setEmulatedMedia", features=[{"name": "prefers-color-scheme", "value": scheme}])
+        if first:
+            self.call("Page.addScriptToEvaluateOnNewDocument", source=first)
         self.call("Page.navigate", url=address)
-        self.wait("document.readyState === 'complete' && document.body.dataset.state === 'answered'")
+        self.wait("document.readyState === 'complete' && ['answered', 'unable'].includes(document.body.dataset.state)")
+        if self.value("document.body.dataset.state") == "unable":
+            raise Fault(self.answer())
 
     def call(self, method: str, **words: Any) -> dict[str, Any]:
         """What the browser answers to a message about this tab."""
