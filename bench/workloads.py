@@ -28,12 +28,12 @@ def copies(count):
     return "".join(name.sub(r"\g<1>%d" % copy, model) for copy in range(count))
 
 
-def models(lines):
+def models(lines: int) -> str:
     """A program of about so many lines as one edits it: a small model again and again, with comments and layout."""
     return MEASURES + "".join(MODEL.format(number) for number in range(lines // MODEL.count("\n")))
 
 
-def middle_model(lines):
+def middle_model(lines: int) -> int:
     """The number of the model in the middle of so many lines."""
     return lines // MODEL.count("\n") // 2
 
