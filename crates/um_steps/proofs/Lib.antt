@@ -2,3 +2,4 @@ pub mod Runs
 mod Acted
 mod Leaping
 mod Home
+mod Inside

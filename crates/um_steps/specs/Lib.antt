@@ -4,3 +4,4 @@ pub mod Going
 pub mod Frames
 pub mod Stepping
 pub mod Several
+pub mod Inside

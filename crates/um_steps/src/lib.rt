@@ -8,6 +8,7 @@
 //! ```
 #![tactic(auto)]
 
+mod calling;
 mod progress;
 mod run;
 mod several;
