@@ -7,3 +7,4 @@ pub mod Scopes
 mod OneName
 mod UnitLoops
 mod RunningProducts
+pub mod BodyNotes

@@ -84,9 +84,13 @@ abbrev pub result_variables : Option TypeSyntax → List (List ℕ)
 result_variables None = []
 result_variables (Some t) = type_variables t
 
--- of a function's notes: its parameters, its result, its body
+-- of a function's head: its parameters, its result
+abbrev pub occurring_in_head : FunctionSyntax → List (List ℕ)
+occurring_in_head f = flat_map (λ p. type_variables p.type) f.params ++ result_variables f.result
+
+-- of a function's notes: its head, its body
 abbrev pub occurring : FunctionSyntax → List (List ℕ)
-occurring f = flat_map (λ p. type_variables p.type) f.params ++ result_variables f.result ++ expr_variables f.body
+occurring f = occurring_in_head f ++ expr_variables f.body
 
 -- each name once, behind those that are there, at its first occurrence
 abbrev pub first_occurrences : List (List ℕ) → List (List ℕ) → List (List ℕ)
@@ -97,3 +101,7 @@ first_occurrences before (x ∷ xs) =
 -- the named variables of a function with these unit parameters, in the order of their numbers
 abbrev pub named_variables : List (List ℕ) → FunctionSyntax → List (List ℕ)
 named_variables unit_params f = first_occurrences unit_params (occurring f)
+
+-- those of its head, with these unit parameters
+abbrev pub head_variables : List (List ℕ) → FunctionSyntax → List (List ℕ)
+head_variables unit_params f = first_occurrences unit_params (occurring_in_head f)

@@ -1,5 +1,9 @@
 //! The digests of the names that a program's tables may hold.
 
+ghost use Rattle.std.specs.Prelude.{◌≡◌, [], false, map};
+ghost use Rattle.um_tree.specs.RawTree.{expr_syntax, exprs_in_order, field_part, fields_in_order};
+ghost use Rattle.um_measures.specs.Variables.{expr_variables, exprs_variables, fields_variables};
+
 use crate::abbreviation::{Abbreviation, Abbreviations};
 use crate::digest::NameDigest;
 use um_tree::{
@@ -54,15 +58,27 @@ pub fn types_digest(raw: &[RawType]) -> NameDigest {
     digest
 }
 
-/// The digest of the named unit variables of a function: its unit parameters, and those that its notes name.
-pub fn function_digest(raw: &RawFunction) -> NameDigest {
+/// What is known of the names of a function's unit variables before they are numbered.
+#[derive(Clone, Copy)]
+pub struct FunctionNames {
+    /// The digest of the unit parameters and of the variables that the notes name
+    pub digest: NameDigest,
+    /// Whether a note of the body may name a variable
+    pub in_body: bool,
+}
+
+/// The digest of the named unit variables of a function, which are its unit parameters and those that its notes name,
+/// and whether its body may name one. Takes no memory.
+pub fn function_names(raw: &RawFunction) -> FunctionNames
+    ensures body { result.in_body ≡ false → expr_variables (expr_syntax raw.now.body) ≡ [] }
+{
     let mut digest = parameters_digest(&raw.units.items);
     in_params(&mut digest, &raw.params.items);
     if let Some(ty) = &raw.result {
         in_type(&mut digest, ty);
     }
-    in_expr(&mut digest, &raw.body);
-    digest
+    let in_body = in_expr(&mut digest, &raw.body);
+    FunctionNames { digest, in_body }
 }
 
 fn add_names(digest: &mut NameDigest, names: &[Name]) {
@@ -151,11 +167,17 @@ fn in_type(digest: &mut NameDigest, raw: &RawType) {
     }
 }
 
+/// Takes the names of the notes in an expression, and says whether there is a note.
 #[cycle(expr_digest)]
-fn in_expr(digest: &mut NameDigest, e: &RawExpr) {
+fn in_expr(digest: &mut NameDigest, e: &RawExpr) -> bool
+    ensures { result ≡ false → expr_variables (expr_syntax e.now) ≡ [] }
+{
     match &e.node {
-        RawNode::Bool(_) | RawNode::Num(_, _) | RawNode::Name(_) => {}
-        RawNode::Nil(ty) => in_type(digest, ty),
+        RawNode::Bool(_) | RawNode::Num(_, _) | RawNode::Name(_) => false,
+        RawNode::Nil(ty) => {
+            in_type(digest, ty);
+            true
+        }
         RawNode::Call(_, items) | RawNode::List(items) => in_exprs(digest, &items.items),
         RawNode::Rec(fields) => in_fields(digest, &fields.items),
         RawNode::Neg(a)
@@ -168,35 +190,40 @@ fn in_expr(digest: &mut NameDigest, e: &RawExpr) {
         | RawNode::And(a, b)
         | RawNode::Or(a, b)
         | RawNode::Let(_, a, b)
-        | RawNode::Cons(a, b) => {
-            in_expr(digest, a);
-            in_expr(digest, b);
-        }
+        | RawNode::Cons(a, b) => in_expr(digest, a) | in_expr(digest, b),
         RawNode::If(a, b, c) | RawNode::Match(a, b, _, _, c) => {
-            in_expr(digest, a);
-            in_expr(digest, b);
-            in_expr(digest, c);
+            in_expr(digest, a) | in_expr(digest, b) | in_expr(digest, c)
         }
     }
 }
 
 #[cycle(expr_digest)]
-fn in_exprs(digest: &mut NameDigest, items: &[RawExpr]) {
+fn in_exprs(digest: &mut NameDigest, items: &[RawExpr]) -> bool
+    ensures { result ≡ false → exprs_variables (exprs_in_order (map expr_syntax items.now)) ≡ [] }
+{
+    let mut any = false;
     for i in 0..items.len() {
-        in_expr(digest, &items[i]);
+        any |= in_expr(digest, &items[i]);
     }
+    any
 }
 
 #[cycle(expr_digest)]
-fn in_fields(digest: &mut NameDigest, fields: &[RawField]) {
+fn in_fields(digest: &mut NameDigest, fields: &[RawField]) -> bool
+    ensures { result ≡ false → fields_variables (fields_in_order (map field_part fields.now)) ≡ [] }
+{
+    let mut any = false;
     for i in 0..fields.len() {
-        in_field(digest, &fields[i]);
+        any |= in_field(digest, &fields[i]);
     }
+    any
 }
 
 #[cycle(expr_digest)]
-fn in_field(digest: &mut NameDigest, field: &RawField) {
-    in_expr(digest, &field.value);
+fn in_field(digest: &mut NameDigest, field: &RawField) -> bool
+    ensures { result ≡ false → expr_variables (field_part field.now).part ≡ [] }
+{
+    in_expr(digest, &field.value)
 }
 
 fn in_params(digest: &mut NameDigest, params: &[RawParam]) {

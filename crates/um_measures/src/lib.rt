@@ -22,12 +22,12 @@ pub use abbreviation::{Abbreviation, Abbreviations};
 pub use closed::{closed_unit, measures_of};
 pub use digest::NameDigest;
 pub use digests::{
-    declarations_digest, fields_digest, function_digest, names_digest, parameters_digest,
-    program_digest, types_digest,
+    FunctionNames, declarations_digest, fields_digest, function_names, names_digest,
+    parameters_digest, program_digest, types_digest,
 };
 pub use measures::Measures;
 pub use scope::{Scope, same_binding};
 pub use stop::NameStop;
 pub use table::NameTable;
 pub use unit::{first_unknown, resolved_unit};
-pub use variables::{add_type_variables, named_variables};
+pub use variables::{add_type_variables, head_variables, named_variables};

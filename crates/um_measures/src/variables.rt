@@ -7,7 +7,7 @@ ghost use Rattle.um_tree.specs.RawTree.{written_type, expr_syntax, exprs_in_orde
 ghost use Rattle.um_tree.specs.RawTree.{param_syntax, whole_function_syntax};
 ghost use Rattle.um_measures.specs.Variables.{unit_variables, all_unit_variables, note_variables, number_variables};
 ghost use Rattle.um_measures.specs.Variables.{type_variables, expr_variables, exprs_variables, fields_variables};
-ghost use Rattle.um_measures.specs.Variables.{result_variables, first_occurrences, named_variables};
+ghost use Rattle.um_measures.specs.Variables.{result_variables, first_occurrences, head_variables, named_variables};
 
 use crate::table::NameTable;
 use std::alloc::{AllocError, Global};
@@ -159,6 +159,25 @@ fn in_params(names: &mut NameTable, alloc: Global, params: &[RawParam]) -> Resul
     Ok(())
 }
 
+/// The named unit variables of a function's head, in the order of their numbers: its unit parameters, and after them
+/// each other one that its parameters and its result name, once, by its first occurrence. They are all variables of a
+/// function whose body names none. Fails for want of memory alone, or where there are 2^32 - 1 names.
+#[tactic(auto, using(crate::proofs::Occurrences::both_occur))]
+pub fn head_variables(
+    alloc: Global,
+    unit_params: NameTable,
+    function: &RawFunction,
+) -> Result<NameTable, AllocError>
+    ensures { IfOk result (λ names. names ≡ head_variables unit_params (whole_function_syntax function.now)) }
+{
+    let mut names = unit_params;
+    in_params(&mut names, alloc, &function.params.items)?;
+    if let Some(ty) = &function.result {
+        add_type_variables(&mut names, alloc, ty)?;
+    }
+    Ok(names)
+}
+
 /// The named unit variables of a function, in the order of their numbers: its unit parameters, and behind them each
 /// other one that its notes name, once, by its first occurrence in the parameters, the result and the body. A number's
 /// unit is no note of the function. Fails for want of memory alone, or where there are 2^32 - 1 names. Unit parameters
@@ -171,11 +190,7 @@ pub fn named_variables(
 ) -> Result<NameTable, AllocError>
     ensures { IfOk result (λ names. names ≡ named_variables unit_params (whole_function_syntax function.now)) }
 {
-    let mut names = unit_params;
-    in_params(&mut names, alloc, &function.params.items)?;
-    if let Some(ty) = &function.result {
-        add_type_variables(&mut names, alloc, ty)?;
-    }
+    let mut names = head_variables(alloc, unit_params, function)?;
     in_expr(&mut names, alloc, &function.body)?;
     Ok(names)
 }

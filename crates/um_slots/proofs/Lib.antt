@@ -6,3 +6,4 @@ pub mod ParameterSlots
 pub mod RenamingLaws
 mod InputLoops
 pub mod InputTexts
+mod ClosedUnits

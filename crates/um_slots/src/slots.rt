@@ -7,7 +7,7 @@ ghost use Rattle.std.specs.List.{flat_map};
 ghost use Rattle.um_units.specs.declared.Atom.TheVariants.{Var};
 ghost use Rattle.um_units.specs.PowerMap.{atom};
 ghost use Rattle.um_tree.specs.TypeTree.{note_tree};
-ghost use Rattle.um_tree.specs.Scheme.{atom_variables};
+ghost use Rattle.um_tree.specs.Scheme.{atom_variables, unit_variables};
 ghost use Rattle.um_slots.specs.declared.stop.SlotStop.TheVariants as stop;
 ghost use Rattle.um_uses.specs.Holes.{unit_holes, units_holes, note_holes, notes_holes};
 ghost use Rattle.um_slots.specs.Keys.{hole, name, hole_keys, name_keys, unit_keys, units_keys, note_keys, notes_keys};
@@ -159,6 +159,17 @@ fn terms_slots(terms: &[Term], slots: &mut Slots) -> Result<(), SlotStop>
     Ok(())
 }
 
+/// The named variables of a unit. Most units have none.
+fn written_slots(unit: &Unit, slots: &mut Slots) -> Result<(), SlotStop>
+    ensures slots { HaveSlots (map name (unit_variables unit.now)) slots.old slots.new result }
+    ensures counted { OnOk result (length slots.new.holes.items ≡ length slots.old.holes.items) }
+{
+    if unit.is_closed() {
+        return Ok(());
+    }
+    terms_slots(unit.terms(), slots)
+}
+
 /// The hole of a unit's note, or its named variables.
 pub(crate) fn unit_slots(alloc: Global, note: &UnitNote, slots: &mut Slots) -> Result<(), SlotStop>
     ensures slots { HaveSlots (unit_keys (length slots.old.holes.items) note.now) slots.old slots.new result }
@@ -166,7 +177,7 @@ pub(crate) fn unit_slots(alloc: Global, note: &UnitNote, slots: &mut Slots) -> R
 {
     match note {
         UnitNote::Hole => slots.add_hole(alloc),
-        UnitNote::Written(unit) => terms_slots(unit.terms(), slots),
+        UnitNote::Written(unit) => written_slots(unit, slots),
     }
 }
 

@@ -6,7 +6,7 @@ ghost use Rattle.um_tree.specs.RawTree.{decl_syntax, program_syntax, whole_funct
 ghost use Rattle.um_unit_reasons.specs.VariableNames.{function_of, functions_of, variables_of, function_variables};
 
 use std::alloc::{AllocError, Global};
-use um_measures::{NameTable, function_digest, named_variables};
+use um_measures::{NameTable, function_names, named_variables};
 use um_tree::{RawDecl, RawFunction, RawProgram};
 
 /// The names of the named variables of function `i`, in the order of their numbers.
@@ -67,7 +67,7 @@ fn functions_in(decl: &RawDecl) -> u32
 fn variables_of(alloc: Global, function: &RawFunction) -> Result<NameTable, AllocError>
     ensures { IfOk result (λ names. names ≡ variables_of (Some (whole_function_syntax function.now))) }
 {
-    let mut parameters = NameTable::with_digest(alloc, function_digest(function));
+    let mut parameters = NameTable::with_digest(alloc, function_names(function).digest);
     for variable in &function.units.items {
         parameters.add(alloc, variable.name.as_slice())?;
     }

@@ -13,4 +13,5 @@ mod WideMerge
 mod PowerMerge
 mod ComputedTerms
 mod ShortUnits
+mod ClosedTerms
 mod KeptTerms

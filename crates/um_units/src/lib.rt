@@ -20,6 +20,7 @@ ghost use Rattle.um_units.specs.Atoms.{same_atom};
 ghost use Rattle.um_units.specs.PowerMap.{one, atom, mul, inv, pow, power_of, product, replace, nth, scale};
 ghost use Rattle.um_units.specs.Range.{all_in_range, fits, IsKept, RangeUnless};
 ghost use Rattle.um_units.specs.Terms.{is_normal};
+ghost use Rattle.um_units.specs.Variables.{variables_below};
 ghost use Rattle.um_units.specs.Wide.{as_terms};
 
 use smallvec::SmallVec;
@@ -27,6 +28,7 @@ use std::alloc::{AllocError, AllocFailed, Global};
 use std::marker::Model;
 use thiserror::Error;
 
+mod closed;
 mod images;
 mod kept;
 mod merge;
@@ -183,6 +185,15 @@ impl Unit {
         self.terms.as_slice()
     }
 
+    /// Whether the unit holds no variable. Takes no memory, and one step however many terms there are, since variables
+    /// come after base units.
+    pub fn is_closed(&self) -> bool
+        ensures closed { result ≡ variables_below 0 self.now.terms }
+        ensures fits { IsTrue (fits self.now) }
+    {
+        closed::are_closed(self.terms())
+    }
+
     /// The power of an atom, which is 0 if the unit doesn't hold it. Takes no memory.
     pub fn power_of(&self, a: Atom) -> i32
         ensures power { result ≡ power_of self.now a }
@@ -271,6 +282,9 @@ impl Unit {
         ensures stays { IsTrue result → replace (nth by.now) self.now ≡ self.now }
         ensures fits { IsTrue (fits self.now) }
     {
+        if self.is_closed() {
+            return true;
+        }
         staying::all_stay(by, self.terms())
     }
 
