@@ -60,21 +60,32 @@ module _ (known : Known) (f : FunctionSyntax) where
   abbrev pub its_name : Found (Unit {0})
   its_name = unless_taken (is_among (function_names known.program.functions) f.name) f.at
 
+  -- with these numbers of unit parameters and of named variables
+  abbrev numbered : ℕ → ℕ → List NoteTree → Option NoteTree → ExprTree → Found FunctionTree
+  numbered units named params result body = Ok (record { name = f.name; at = f.at; recursive = f.recursive; units = units; params = params; named = named; result = result; body = body })
+
   abbrev in_body : List (List ℕ) → List Callable → Scope → Found ExprTree
   in_body variables own scope = resolved_expr known variables (map callable known.program.functions ++ own) scope f.body
 
-  pub function_is : (name : List ℕ) (units named : ℕ) (us variables : List (List ℕ)) (params : List NoteTree) (result : Option NoteTree) (own : List Callable) (scope : Scope) (body : ExprTree) → name ≡ f.name → units ≡ length us → named ≡ length variables
-      → is_among (function_names known.program.functions) f.name ≡ false → resolved_parameters [] f.units ≡ Ok us → variables ≡ named_variables us f → resolved_params known variables [] f.params ≡ Ok params → resolved_result known variables f.result ≡ Ok result
-      → own ≡ itself f → scope ≡ scope_of f → in_body variables own scope ≡ Ok body → resolved_function known f ≡ Ok (record { name = name; at = f.at; recursive = f.recursive; units = units; params = params; named = named; result = result; body = body })
-  function_is name units named us variables params result own scope body e m u n q v p r o s b =
+  abbrev behind : List NoteTree → Option NoteTree → ℕ → ℕ → List (List ℕ) → List Callable → Scope → Found FunctionTree
+  behind params result units named variables own scope = and_then (in_body variables own scope) (numbered units named params result)
+
+  pub head_is : (units named : ℕ) (us variables : List (List ℕ)) (params : List NoteTree) (result : Option NoteTree) (own : List Callable) (scope : Scope) → units ≡ length us → named ≡ length variables → is_among (function_names known.program.functions) f.name ≡ false
+      → resolved_parameters [] f.units ≡ Ok us → variables ≡ named_variables us f → resolved_params known variables [] f.params ≡ Ok params → resolved_result known variables f.result ≡ Ok result → own ≡ itself f → scope ≡ scope_of f
+      → resolved_function known f ≡ behind params result units named variables own scope
+  head_is units named us variables params result own scope m u n q v p r o s =
       let names = named_variables us f in
       let p' : resolved_params known names [] f.params ≡ Ok params = subst (λ (vs : List (List ℕ)). resolved_params known vs [] f.params ≡ Ok params) v p in
       let r' : resolved_result known names f.result ≡ Ok result = subst (λ (vs : List (List ℕ)). resolved_result known vs f.result ≡ Ok result) v r in
-      let b1 : in_body names own scope ≡ Ok body = subst (λ (vs : List (List ℕ)). in_body vs own scope ≡ Ok body) v b in
-      let b2 : in_body names (itself f) scope ≡ Ok body = subst (λ (cs : List Callable). in_body names cs scope ≡ Ok body) o b1 in
-      let b3 : in_body names (itself f) (scope_of f) ≡ Ok body = subst (λ (sc : Scope). in_body names (itself f) sc ≡ Ok body) s b2 in
       next its_name tt with_its_name (free (is_among (function_names known.program.functions) f.name) f.at n) ∙ next (resolved_parameters [] f.units) us with_unit_params q ∙ next (resolved_params known names [] f.params) params (with_params us) p'
-      ∙ next (resolved_result known names f.result) result (with_result us params) r' ∙ next (in_body names (itself f) (scope_of f)) body (with_body us params result) b3
-      ∙ ap (λ (y : List ℕ). Ok (record { name = y; at = f.at; recursive = f.recursive; units = length us; params = params; named = length names; result = result; body = body })) (sym e)
-      ∙ ap (λ (k : ℕ). Ok (record { name = name; at = f.at; recursive = f.recursive; units = k; params = params; named = length names; result = result; body = body })) (sym m)
-      ∙ ap (λ (k : ℕ). Ok (record { name = name; at = f.at; recursive = f.recursive; units = units; params = params; named = k; result = result; body = body })) (ap length (sym v) ∙ sym u)
+      ∙ next (resolved_result known names f.result) result (with_result us params) r'
+      ∙ ap (λ (k : ℕ). behind params result k (length names) names (itself f) (scope_of f)) (sym m)
+      ∙ ap (λ (k : ℕ). behind params result units k names (itself f) (scope_of f)) (ap length (sym v) ∙ sym u)
+      ∙ ap (λ (vs : List (List ℕ)). behind params result units named vs (itself f) (scope_of f)) (sym v)
+      ∙ ap (λ (cs : List Callable). behind params result units named variables cs (scope_of f)) (sym o)
+      ∙ ap (λ (sc : Scope). behind params result units named variables own sc) (sym s)
+
+  pub body_is : (name : List ℕ) (units named : ℕ) (params : List NoteTree) (result : Option NoteTree) (found : Found ExprTree) (body : ExprTree) → name ≡ f.name → found ≡ Ok body
+      → and_then found (numbered units named params result) ≡ Ok (record { name = name; at = f.at; recursive = f.recursive; units = units; params = params; named = named; result = result; body = body })
+  body_is name units named params result found body e b =
+      next found body (numbered units named params result) b ∙ ap (λ (y : List ℕ). Ok (record { name = y; at = f.at; recursive = f.recursive; units = units; params = params; named = named; result = result; body = body })) (sym e)

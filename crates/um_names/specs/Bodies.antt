@@ -1,11 +1,14 @@
 -- Mirrors the code: expressions in the body of a function, by what the code knows there.
 -- Source: this project's own.
-use Rattle.std.specs.Prelude.{List, [], ◌∷◌, ◌++◌, Ok}
+use Rattle.std.specs.Prelude.{List, [], ◌∷◌, ◌++◌, Ok, map}
 use Rattle.um_tree.specs.ExprTree.{ExprTree, ExprTrees}
-use Rattle.um_tree.specs.RawTree.{BinderSyntax, ExprSyntax, ExprSyntaxes, FieldSyntaxes}
+use Rattle.um_tree.specs.RawTree.{BinderSyntax, ExprSyntax, ExprSyntaxes, FieldSyntaxes, FunctionSyntax}
+use Rattle.um_tree.specs.TypeTree.{note_tree}
+use Rattle.um_tree.specs.ProgramTree.{FunctionTree, result_tree}
 use Rattle.um_names.specs.declared.known.Tables.{Tables}
 use Rattle.um_names.specs.declared.callable.Callable.{Callable}
 use Rattle.um_names.specs.declared.node.Body.{Body}
+use Rattle.um_names.specs.declared.declare.Head.{Head}
 use Rattle.um_measures.specs.Faults.{Found, and_then, unless_taken}
 use Rattle.um_measures.specs.Scopes.{Scope, same_binding}
 use Rattle.um_names.specs.ExprNames.{resolved_expr, resolved_exprs, resolved_parts}
@@ -32,3 +35,18 @@ abbrev pub resolved_arm : Tables → Body → Scope → BinderSyntax → BinderS
 resolved_arm t b scope x y e =
     and_then (unless_taken (same_binding x.name y.name) y.at) (λ _.
     resolved_in t b (scope ++ x.name ∷ y.name ∷ []) e)
+
+-- the function that has this head, with its body
+abbrev pub with_body : Tables → FunctionSyntax → Head → Found FunctionTree
+with_body t f h =
+    and_then (resolved_in t h.known h.scope f.body) (λ body.
+    Ok (record {
+      name = f.name;
+      at = f.at;
+      recursive = f.recursive;
+      units = h.units;
+      params = map note_tree h.params.items;
+      named = h.named;
+      result = result_tree h.result;
+      body = body;
+    }))

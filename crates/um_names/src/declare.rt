@@ -1,16 +1,19 @@
 //! Declarations, one at a time.
 
-ghost use Rattle.std.specs.Prelude.{◌≡◌, Ok, IfOk, IfErr, OnOk, map};
+ghost use Rattle.std.specs.Prelude.{◌≡◌, [], false, Ok, IfOk, IfErr, OnOk, map};
 ghost use Rattle.um_tree.specs.ProgramTree.{record_tree, function_tree};
 ghost use Rattle.um_tree.specs.RawTree.{var_syntax, field_decl_syntax, whole_function_syntax, decl_syntax, base_syntax};
-ghost use Rattle.um_tree.specs.RawTree.{short_syntax, unit_syntax};
+ghost use Rattle.um_tree.specs.RawTree.{short_syntax, unit_syntax, expr_syntax};
 ghost use Rattle.um_measures.specs.Known.{is_taken};
+ghost use Rattle.um_measures.specs.Variables.{expr_variables, named_variables};
 ghost use Rattle.um_names.specs.Parts.{itself};
 ghost use Rattle.um_names.specs.Resolution.{resolved_record_decl, resolved_function, resolved_decl};
+ghost use Rattle.um_names.specs.Bodies.{with_body};
 ghost use Rattle.um_measures.specs.Stops.{IsFirst};
 ghost use Rattle.um_names.specs.Tables.{AreTables, known_of, own_callable};
 
 use crate::adding::{add_base, add_function, add_short, copied};
+use crate::body::body;
 use crate::callable::Callable;
 use crate::expr::expr;
 use crate::fields::field_decls;
@@ -21,9 +24,12 @@ use crate::parts::{result_note, unit_parameters};
 use crate::records::add_record;
 use crate::signature::{Parameters, params};
 use std::alloc::{AllocError, Global};
-use um_measures::{NameStop, NameTable, function_digest, named_variables, parameters_digest};
+use um_measures::{
+    NameStop, NameTable, Scope, function_names, head_variables, named_variables, parameters_digest,
+};
 use um_tree::{
-    FieldDecls, Function, Name, Notes, RawDecl, RawFieldDecl, RawFunction, RawUnit, RawVar, Record,
+    FieldDecls, Function, Name, Note, Notes, RawDecl, RawFieldDecl, RawFunction, RawUnit, RawVar,
+    Record,
 };
 
 /// Whether a measure or a record has this name.
@@ -75,6 +81,63 @@ fn itself(alloc: Global, raw: &RawFunction) -> Result<Option<Callable>, AllocErr
     }))
 }
 
+/// The named variables of a function. A body that names none isn't walked.
+fn variables_of(
+    alloc: Global,
+    unit_params: NameTable,
+    raw: &RawFunction,
+    in_body: bool,
+) -> Result<NameTable, AllocError>
+    requires body { in_body ≡ false → expr_variables (expr_syntax raw.now.body) ≡ [] }
+    ensures { IfOk result (λ names. names ≡ named_variables unit_params (whole_function_syntax raw.now)) }
+{
+    if in_body {
+        named_variables(alloc, unit_params, raw)
+    } else {
+        head_variables(alloc, unit_params, raw)
+    }
+}
+
+/// What of a function comes before its body, and what is known in its body.
+#[derive(Drop)]
+struct Head {
+    units: u32,
+    params: Vec<Note>,
+    named: u32,
+    result: Option<Note>,
+    scope: Scope,
+    known: Body,
+}
+
+/// A function before its body: its name, its unit parameters, its parameters, its result.
+#[inline(always)]
+fn head_of(alloc: Global, tables: &Tables, raw: &RawFunction) -> Result<Head, NameStop>
+    requires { AreTables tables.now }
+    ensures exact { IfOk result (λ h. resolved_function (known_of tables.now) (whole_function_syntax raw.now)
+        ≡ with_body tables.now (whole_function_syntax raw.now) h) }
+    ensures faults { IfErr result (IsFirst (resolved_function (known_of tables.now) (whole_function_syntax raw.now))) }
+{
+    if tables.function_names.has(raw.name.as_slice()) {
+        return Err(NameStop::Twice { at: raw.at });
+    }
+    let names = function_names(raw);
+    let unit_params = unit_parameters(alloc, names.digest, &raw.units.items)?;
+    let units = unit_params.count();
+    let variables = variables_of(alloc, unit_params, raw, names.in_body)?;
+    let Parameters { notes, scope } = params(alloc, tables, &variables, &raw.params.items)?;
+    let result = result_note(alloc, tables, &variables, &raw.result)?;
+    let named = variables.count();
+    let own = itself(alloc, raw)?;
+    Ok(Head {
+        units,
+        params: notes,
+        named,
+        result,
+        scope,
+        known: Body { variables, own },
+    })
+}
+
 /// A function: its name, its unit parameters, its parameters, its result, its body.
 fn function(alloc: Global, tables: &Tables, raw: &RawFunction) -> Result<Function, NameStop>
     requires { AreTables tables.now }
@@ -82,18 +145,14 @@ fn function(alloc: Global, tables: &Tables, raw: &RawFunction) -> Result<Functio
         ≡ Ok (function_tree f)) }
     ensures faults { IfErr result (IsFirst (resolved_function (known_of tables.now) (whole_function_syntax raw.now))) }
 {
-    if tables.function_names.has(raw.name.as_slice()) {
-        return Err(NameStop::Twice { at: raw.at });
-    }
-    let unit_params = unit_parameters(alloc, function_digest(raw), &raw.units.items)?;
-    let units = unit_params.count();
-    let variables = named_variables(alloc, unit_params, raw)?;
-    let Parameters { notes, mut scope } = params(alloc, tables, &variables, &raw.params.items)?;
-    let result = result_note(alloc, tables, &variables, &raw.result)?;
-    let named = variables.count();
-    let own = itself(alloc, raw)?;
-    let name = copied(alloc, &raw.name)?;
-    let known = Body { variables, own };
+    let Head {
+        units,
+        params,
+        named,
+        result,
+        mut scope,
+        known,
+    } = head_of(alloc, tables, raw)?;
     let lookup = Lookup {
         alloc,
         tables,
@@ -101,11 +160,76 @@ fn function(alloc: Global, tables: &Tables, raw: &RawFunction) -> Result<Functio
     };
     let body = expr(&lookup, &mut scope, &raw.body)?;
     Ok(Function {
-        name,
+        name: copied(alloc, &raw.name)?,
         at: raw.at,
         recursive: raw.recursive,
         units,
-        params: Notes { items: notes },
+        params: Notes { items: params },
+        named,
+        result,
+        body,
+    })
+}
+
+/// The same of a function that is handed over. Its body is let go while it is resolved.
+fn last_function(alloc: Global, tables: &Tables, raw: RawFunction) -> Result<Function, NameStop>
+    requires { AreTables tables.now }
+    ensures exact { IfOk result (λ f. resolved_function (known_of tables.now) (whole_function_syntax raw)
+        ≡ Ok (function_tree f)) }
+    ensures faults { IfErr result (IsFirst (resolved_function (known_of tables.now) (whole_function_syntax raw))) }
+{
+    match head_of(alloc, tables, &raw) {
+        Ok(head) => whole_function(alloc, tables, head, raw),
+        Err(stop) => {
+            drop(raw);
+            Err(stop)
+        }
+    }
+}
+
+/// The function of a text whose head is resolved.
+fn whole_function(
+    alloc: Global,
+    tables: &Tables,
+    head: Head,
+    raw: RawFunction,
+) -> Result<Function, NameStop>
+    requires { AreTables tables.now }
+    ensures exact { IfOk result (λ f. with_body tables.now (whole_function_syntax raw) head ≡ Ok (function_tree f)) }
+    ensures faults { IfErr result (IsFirst (with_body tables.now (whole_function_syntax raw) head)) }
+{
+    let RawFunction {
+        at,
+        name,
+        recursive,
+        units,
+        params,
+        result,
+        body: text,
+    } = raw;
+    drop(units);
+    drop(params);
+    drop(result);
+    let Head {
+        units,
+        params,
+        named,
+        result,
+        mut scope,
+        known,
+    } = head;
+    let lookup = Lookup {
+        alloc,
+        tables,
+        body: &known,
+    };
+    let body = body(&lookup, &mut scope, text)?;
+    Ok(Function {
+        name,
+        at,
+        recursive,
+        units,
+        params: Notes { items: params },
         named,
         result,
         body,
@@ -167,6 +291,26 @@ pub fn declare(alloc: Global, tables: &mut Tables, decl: &RawDecl) -> Result<(),
         RawDecl::Function(raw) => {
             let function = function(alloc, tables, raw)?;
             Ok(add_function(alloc, tables, function)?)
+        }
+    }
+}
+
+/// Takes a declaration that is handed over into the tables, and lets it go.
+pub fn declare_last(alloc: Global, tables: &mut Tables, decl: RawDecl) -> Result<(), NameStop>
+    requires { AreTables tables.old }
+    ensures tables { OnOk result (AreTables tables.new) }
+    ensures exact { OnOk result (resolved_decl (known_of tables.old) (decl_syntax decl) ≡ Ok (known_of tables.new)) }
+    ensures faults { IfErr result (IsFirst (resolved_decl (known_of tables.old) (decl_syntax decl))) }
+{
+    match decl {
+        RawDecl::Function(raw) => {
+            let function = last_function(alloc, tables, raw)?;
+            Ok(add_function(alloc, tables, function)?)
+        }
+        decl => {
+            let declared = declare(alloc, tables, &decl);
+            drop(decl);
+            declared
         }
     }
 }

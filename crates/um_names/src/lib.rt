@@ -8,6 +8,7 @@
 #![tactic(auto)]
 
 mod adding;
+mod body;
 mod callable;
 mod declare;
 mod expr;

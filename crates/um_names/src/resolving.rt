@@ -10,7 +10,7 @@ ghost use Rattle.um_names.specs.Readable.{IsReadable};
 ghost use Rattle.um_measures.specs.Stops.{IsFirst};
 ghost use Rattle.um_names.specs.Tables.{AreTables, known_of};
 
-use crate::declare::declare;
+use crate::declare::{declare, declare_last};
 use crate::known::Tables;
 use std::alloc::{AllocError, Global};
 use um_measures::{Abbreviations, NameStop, declarations_digest};
@@ -42,18 +42,6 @@ fn declarations(alloc: Global, raw: &[RawDecl]) -> Result<Tables, NameStop>
             Err(stop)
         }
     }
-}
-
-/// Takes this declaration into the tables, and lets it go.
-fn declare_last(alloc: Global, tables: &mut Tables, decl: RawDecl) -> Result<(), NameStop>
-    requires { AreTables tables.old }
-    ensures tables { OnOk result (AreTables tables.new) }
-    ensures exact { OnOk result (resolved_decl (known_of tables.old) (decl_syntax decl) ≡ Ok (known_of tables.new)) }
-    ensures faults { IfErr result (IsFirst (resolved_decl (known_of tables.old) (decl_syntax decl))) }
-{
-    let declared = declare(alloc, tables, &decl);
-    drop(decl);
-    declared
 }
 
 /// Takes these declarations into the tables, one after another. The memory of each serves the program of the next.
