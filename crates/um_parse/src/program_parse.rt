@@ -12,6 +12,7 @@ ghost use Rattle.um_parse.specs.Parsed.{Parsed, ReadAt, Limited};
 use crate::limits::first_passed;
 use crate::places::Places;
 use crate::program_reader::ProgramReader;
+use crate::unread::Unread;
 use std::alloc::Global;
 use um_reader::{ReadStop, Reader, Taken, read_all};
 use um_syntax::{Token, Tokens};
@@ -101,7 +102,8 @@ fn read_tokens(alloc: Global, tokens: Tokens, end: u32) -> Result<ReadProgram, P
 {
     let mut reader = ProgramReader::new(alloc);
     let mut places = Places::none();
-    for mut token in tokens.into_vec() {
+    let mut unread = Unread::all(tokens);
+    while let Some(mut token) = unread.take_next() {
         let at = token.start;
         places.add(at);
         match reader.take(alloc, &mut token) {
