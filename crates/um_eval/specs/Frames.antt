@@ -1,6 +1,6 @@
 -- What frames stand for: what becomes of the outcome, and of the traces, of the expression that stands inside them.
 -- Source: M. Felleisen and D. Friedman 1986 (the CEK machine: evaluation with its continuation as a stack of frames).
-use Rattle.std.specs.Prelude.{◌≡◌, ◌-◌, ◌≤◌, ℕ, true, false, List, [], ◌∷◌, ◌++◌, length, map, take, drop, Result}
+use Rattle.std.specs.Prelude.{◌≡◌, ◌-◌, ◌≤◌, ℕ, Bool, true, false, List, [], ◌∷◌, ◌++◌, length, map, take, drop, Result}
 use Rattle.um_tree.specs.ValueTree.{ValueTree, truth_value, list_value, record_value, values_in_order}
 use Rattle.um_tree.specs.ExprTree.{expr_tree, in_order}
 use Rattle.um_tree.specs.ProgramTree.{FunctionTree}
@@ -37,6 +37,20 @@ abbrev pub collected : List FunctionTree → Collection → List ValueTree → �
 collected fs collection.List vs b = gives (list_value (values_in_order vs)) b
 collected fs (collection.Rec r) vs b = gives (record_value r (values_in_order vs)) b
 collected fs (collection.Call j at) vs b = Outcome fs j vs b
+
+-- the frame of a body of a function
+abbrev pub is_body : Frame → Bool
+is_body (frame.Operand op) = false
+is_body (frame.Left op y) = false
+is_body (frame.Right op x) = false
+is_body (frame.LeftOfAnd y) = false
+is_body (frame.LeftOfOr y) = false
+is_body (frame.Test x y) = false
+is_body (frame.Bound y) = false
+is_body (frame.Matched x y) = false
+is_body (frame.Inner n) = false
+is_body (frame.Item c rest first) = false
+is_body (frame.Body base j at) = true
 
 -- The frames, the innermost first, make the outcome of the whole call of that of the expression inside them, m, and its
 -- traces of those of this expression, P. There the variables have these values, the first words are the callers'

@@ -2,7 +2,7 @@
 ghost use Rattle.std.specs.Prelude.{◌≡◌};
 ghost use Rattle.um_eval.specs.Settling.{either};
 
-use crate::frame::{Binary, Collection, Frame, Unary};
+use crate::frame::{Binary, Collection, Frame, Unary, is_body};
 use crate::next::{End, Next};
 use crate::operations::{apply, binary_place, given_operands, operate, unary_place};
 use crate::scope::Scope;
@@ -33,10 +33,12 @@ pub(crate) struct Evaluator<'a> {
 }
 
 impl<'a> Evaluator<'a> {
-    ghost use Rattle.std.specs.Prelude.{◌≡◌, ◌≤◌, ◌∷◌, ◌+◌, ℕ, List, Some, length, slice_get, IfOk, map};
+    ghost use Rattle.std.specs.Prelude.{◌≡◌, ◌≤◌, ◌∷◌, ◌+◌, ℕ, List, Some, length, slice_get, IfOk, IsTrue, map};
     ghost use Rattle.um_tree.specs.ExprTree.{expr_tree, in_order};
     ghost use Rattle.um_tree.specs.ProgramTree.{FunctionTree, function_tree};
-    ghost use Rattle.um_eval.specs.declared.frame.Frame.TheVariants.{Operand, Right, Bound, Matched, Item};
+    ghost use Rattle.um_eval.specs.declared.frame.Frame.TheVariants.{Operand, Right, Bound, Matched, Item, Inner};
+    ghost use Rattle.um_eval.specs.declared.frame.Frame.{Frame};
+    ghost use Rattle.um_eval.specs.Frames.{is_body};
     ghost use Rattle.um_eval.specs.declared.frame.Collection.TheVariants as collection;
     ghost use Rattle.um_eval.specs.Tasks.{Evaluate, Give};
     ghost use Rattle.um_eval.specs.Settling.{settled, given_operands};
@@ -229,8 +231,34 @@ impl<'a> Evaluator<'a> {
     {
         let outside = self.scope.len();
         match self.scope.push(self.value) {
-            Ok(()) => self.begin(Frame::Inner(outside), y),
+            Ok(()) => self.begin_inside(outside, y),
             Err(_) => Next::NoMemory,
+        }
+    }
+
+    // Goes into a part that has more variables than there are outside of it. A function's body drops its variables when
+    // it has its value. So the last part of a body needs no frame of its own.
+    #[inline(always)]
+    fn begin_inside(&mut self, outside: usize, part: &'a Expr) -> Next<'a>
+        ensures { (fs : List FunctionTree) (whole : Whole) (n : ℕ)
+            → Within fs self.old (Inner outside ∷ frames_of self.old) (Evaluate part.entry) whole n
+            → Goes fs self.new result whole n }
+    {
+        if self.ends_body() {
+            return Next::Evaluate(part);
+        }
+        self.begin(Frame::Inner(outside), part)
+    }
+
+    // Whether the innermost frame is that of a body.
+    #[inline(always)]
+    fn ends_body(&self) -> bool
+        ensures { IsTrue result → (f : Frame) × (rest : List Frame) × (frames_of self.now ≡ f ∷ rest)
+            × IsTrue (is_body f) }
+    {
+        match self.frames.last() {
+            Some(frame) => is_body(*frame),
+            None => false,
         }
     }
 
@@ -247,7 +275,7 @@ impl<'a> Evaluator<'a> {
             Some(ListCase::Items(first, others)) => {
                 let outside = self.scope.len();
                 match self.scope.push_both(first, others) {
-                    Ok(()) => self.begin(Frame::Inner(outside), y),
+                    Ok(()) => self.begin_inside(outside, y),
                     Err(_) => Next::NoMemory,
                 }
             }

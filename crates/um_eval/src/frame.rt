@@ -1,4 +1,7 @@
 //! Frames: where in the tree the expression stands that is evaluated, and what is still to be done with its value.
+ghost use Rattle.std.specs.Prelude.{◌≡◌};
+ghost use Rattle.um_eval.specs.Frames.{is_body};
+
 use um_cells::Word;
 use um_tree::{Arith, Expr, Sign};
 
@@ -54,4 +57,24 @@ pub(crate) enum Frame<'a> {
     Item(Collection, &'a [Expr], usize),
     /// The body of a function: where the caller's variables begin, the function's number, and the place of the call
     Body(usize, u32, u32),
+}
+
+/// Whether it is the frame of a body.
+#[inline(always)]
+pub(crate) fn is_body(frame: Frame) -> bool
+    ensures { result ≡ is_body frame.entry }
+{
+    match frame {
+        Frame::Body(_, _, _) => true,
+        Frame::Operand(_) => false,
+        Frame::Left(_, _) => false,
+        Frame::Right(_, _) => false,
+        Frame::LeftOfAnd(_) => false,
+        Frame::LeftOfOr(_) => false,
+        Frame::Test(_, _) => false,
+        Frame::Bound(_) => false,
+        Frame::Matched(_, _) => false,
+        Frame::Inner(_) => false,
+        Frame::Item(_, _, _) => false,
+    }
 }

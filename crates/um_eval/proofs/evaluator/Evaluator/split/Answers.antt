@@ -25,6 +25,6 @@ returns-in-Ok c = λ fs whole n h.
     let m = c.args.self.now in
     let apart = subst (λ o. (v : ValueTree) → DenotesIn m.store m.value v → TakenApart m.store v (Some o)) c.in-Some-Items.field-0-is c.in-Some-Items.ensures in
     let scope = c.push_both.new.self in
-    c.begin.ensures fs whole n
+    c.begin_inside.ensures fs whole n
     (subst (λ ws. Leads fs m.store ws (own_of scope) m.values.items m.budget (Inner c.len-outside.result ∷ frames_of m) (Evaluate c.args.y) whole n) (sym c.in-Ok.ensures.callers)
     (items_leads fs m.store (callers_of m.scope) (own_of m.scope) m.values.items m.budget (frames_of m) whole m.value n c.args.x c.args.y c.in-Some-Items.first c.in-Some-Items.others (own_of scope) c.len-outside.result c.in-Ok.ensures.own c.len-outside.ensures apart h))
