@@ -1,8 +1,8 @@
 -- The steps of an annotation: types pushed one by one, their variables, and the types put back at their nodes.
-use Rattle.std.proofs.Common.{◌≡◌, ℕ, ◌+◌, ◌<◌, ◌≤◌, Bool, true, false, cond, nat_le, List, [], ◌∷◌, ◌++◌, map, drop, take, set, length, get_or, Some, None, inl, inr, refl, sym, ap, ◌∙◌, subst, arith}
+use Rattle.std.proofs.Common.{◌≡◌, ℕ, ◌+◌, ◌<◌, Bool, true, false, cond, nat_le, List, [], ◌∷◌, ◌++◌, map, drop, set, length, get_or, Some, None, inl, inr, refl, sym, ap, ◌∙◌, subst}
 use Rattle.std.specs.Prelude.{All}
 use Rattle.std.proofs.lemmas.Bool.{cases_Bool, cond-true, cond-false}
-use Rattle.std.proofs.lemmas.List.{append_assoc, map-append, length-append, length-map, length-take-le, take_more, take_more_set, drop_more, get_or-drop}
+use Rattle.std.proofs.lemmas.List.{append_assoc, map-append, length-append, length-map, drop-set, drop_more}
 use Rattle.std.proofs.lemmas.List.Elements.{All-append}
 use Rattle.um_units.specs.PowerMap.{PowerMap, nth}
 use Rattle.um_units.specs.Variables.{VariablesBelow}
@@ -25,7 +25,6 @@ use Rattle.um_annot.specs.declared.order.Placed.{Placed}
 use Rattle.um_annot.specs.Answers.{StopsAt, node_at, solved_nodes, retyped}
 use Rattle.um_annot.specs.Placing.{placed_nodes, type_of}
 use Rattle.um_annot.proofs.Ordered.{order_with}
-use Rattle.um_annot.proofs.PlacedNodes.{placed_more}
 use Rattle.um_annot.proofs.NodeLists.{types_with}
 
 -- ---- variables of nodes in another order
@@ -129,38 +128,14 @@ numbered_back bases parameters slots us hs ns =
     ∙ sym (retyped_places gen (solved_nodes us ns) (map (put by) (node_types parts)))
     ∙ retyped_with (put by) parts
 
--- one node more
-retyped_append : (ns : List TypedNode) (ts : List TypeTree) (n : TypedNode) (t : TypeTree) → length ns ≡ length ts → retyped (ns ++ n ∷ []) (ts ++ t ∷ []) ≡ retyped ns ts ++ record { at = n.at; type = t } ∷ []
-retyped_append [] [] n t l = refl
-retyped_append [] (u ∷ ts) n t l = absurd (cc l)
-retyped_append (m ∷ ns) [] n t l = absurd (cc l)
-retyped_append (m ∷ ns) (u ∷ ts) n t l = ap (λ xs. record { at = m.at; type = u } ∷ xs) (retyped_append ns ts n t (omega (arith, l)))
-
-retyped_more : (order : List Placed) (ts : List Ty) (i : ℕ) (p : Placed) (t : Ty) → i < length order → i < length ts → p ≡ get_or order i p → t ≡ get_or ts i t →
-    retyped (placed_nodes [] (take (i + 1) order)) (map type_tree (take (i + 1) ts)) ≡ retyped (placed_nodes [] (take i order)) (map type_tree (take i ts)) ++ node_at p.at (type_tree t) ∷ []
-retyped_more order ts i p t below inside is same =
-    let low : i ≤ length order = omega (arith, below) in
-    let low_too : i ≤ length ts = omega (arith, inside) in
-    let one = λ (q : Placed). node_at q.at (type_of [] q.node) in
-    let long : length (placed_nodes [] (take i order)) ≡ length (map type_tree (take i ts)) = omega (arith, length-map (take i order) one, length-map (take i ts) type_tree, length-take-le i order low, length-take-le i ts low_too) in
-    let types : map type_tree (take (i + 1) ts) ≡ map type_tree (take i ts) ++ type_tree t ∷ [] = ap (map type_tree) (take_more ts i t inside ∙ ap (λ x. take i ts ++ x ∷ []) (sym same)) ∙ map-append type_tree (take i ts) (t ∷ []) in
-    (λ j. retyped (placed_more [] order i p below is j) (types j))
-    ∙ retyped_append (placed_nodes [] (take i order)) (map type_tree (take i ts)) (node_at p.at (type_of [] p.node)) (type_tree t) long
-
-same_next : {X : Type 0} (xs ys : List X) (i : ℕ) (d : X) → i < length xs → i < length ys → drop i xs ≡ drop i ys → get_or xs i d ≡ get_or ys i d
-same_next xs ys i d below inside h = let both : get_or xs i d ∷ drop (i + 1) xs ≡ get_or ys i d ∷ drop (i + 1) ys = sym (drop_more xs i d below) ∙ h ∙ drop_more ys i d inside in cc both
-
--- a node is put at the place that comes next
-pub put_more : (ns : List NodeType) (order : List Placed) (ts : List Ty) (i : ℕ) (p : Placed) (m : NodeType) (t : Ty) → i < length ns → i < length order → i < length ts → p ≡ get_or order i p → t ≡ get_or ts i t → typed_node m ≡ node_at p.at (type_tree t) →
-    map typed_node (take i ns) ≡ retyped (placed_nodes [] (take i order)) (map type_tree (take i ts)) → map typed_node (take (i + 1) (set ns i m)) ≡ retyped (placed_nodes [] (take (i + 1) order)) (map type_tree (take (i + 1) ts))
-put_more ns order ts i p m t below inside low is same made done =
-    ap (map typed_node) (take_more_set ns i m below) ∙ map-append typed_node (take i ns) (m ∷ [])
-    ∙ (λ j. done j ++ made j ∷ [])
-    ∙ sym (retyped_more order ts i p t inside low is same)
-
--- the type at the place, where some heads come first
-pub type_next : (now ts : List Ty) (heads i : ℕ) (t : Ty) → heads + i < length now → heads + i < length ts → drop (heads + i) now ≡ drop (heads + i) ts → t ≡ get_or now (heads + i) t → t ≡ get_or (drop heads ts) i t
-type_next now ts heads i t below inside left is = is ∙ same_next now ts (heads + i) t below inside left ∙ sym (get_or-drop heads ts i t)
+-- a node and its type are put before those that are there
+pub put_before : (ns : List NodeType) (order : List Placed) (ts more : List Ty) (i j : ℕ) (p : Placed) (m : NodeType) (t : Ty) → i + 1 ≡ j → i < length ns → i < length order → p ≡ get_or order i p → ts ≡ t ∷ more → typed_node m ≡ node_at p.at (type_tree t) →
+    map typed_node (drop j ns) ≡ retyped (placed_nodes [] (drop j order)) (map type_tree more) → map typed_node (drop i (set ns i m)) ≡ retyped (placed_nodes [] (drop i order)) (map type_tree ts)
+put_before ns order ts more i j p m t next below inside is these made done =
+    let places : drop i order ≡ p ∷ drop j order = drop_more order i p inside ∙ ap (λ q. q ∷ drop (i + 1) order) (sym is) ∙ ap (λ k. p ∷ drop k order) next in
+    ap (map typed_node) (drop-set ns i m below ∙ ap (λ k. m ∷ drop k ns) next)
+    ∙ (λ k. made k ∷ done k)
+    ∙ sym (λ k. retyped (placed_nodes [] (places k)) (map type_tree (these k)))
 
 -- numbering and changing types keep their number
 pub numbered_count : (f : TypeTree → TypeTree) (ts us vs : Types) → type_trees us ≡ map f (type_trees ts) → type_trees vs ≡ renumbered (type_trees us) → length vs.items.items ≡ length ts.items.items

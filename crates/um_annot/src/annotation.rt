@@ -243,13 +243,16 @@ fn put_types(order: &[Placed], nodes: &mut Vec<NodeType>, types: Types)
         → map typed_node nodes.new.items ≡ retyped (placed_nodes [] order.now) (drop heads (type_trees types)) }
 {
     let mut types = types.items;
-    let heads = types.len() - order.len();
-    for i in 0..order.len() {
-        let ty = mem::replace(&mut types[heads + i], Ty::Bool);
-        nodes[i] = NodeType {
-            at: order[i].at,
-            ty,
-        };
+    for i in (0..order.len()).rev() {
+        match types.pop() {
+            Some(ty) => {
+                nodes[i] = NodeType {
+                    at: order[i].at,
+                    ty,
+                };
+            }
+            None => unreachable!(),
+        }
     }
     drop(types);
 }

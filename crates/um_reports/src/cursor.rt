@@ -1,6 +1,7 @@
 // A place that moves on through a text, so that to print many places in order reads the text once.
-ghost use Rattle.std.specs.Prelude.{ℕ, List, ◌≡◌, ◌++◌, ◌≤◌, IfOk, OnOk, codes, length, take};
-ghost use Rattle.um_reports.specs.Places.{place_text};
+ghost use Rattle.std.specs.Prelude.{ℕ, List, ◌≡◌, ◌++◌, ◌+◌, ◌^◌, ◌<◌, ◌≤◌, IfOk, OnOk, codes, length, take};
+ghost use Rattle.std.specs.Prelude.{if◌then◌else◌};
+ghost use Rattle.um_reports.specs.Places.{begins_character as begins, is_line_feed, place_text};
 ghost use Rattle.um_reports.specs.Cursors.{AreAt, IsAt, line_start};
 
 use crate::place::begins_character;
@@ -144,11 +145,10 @@ fn moved(bytes: &[u8], cursor: Cursor, end: usize) -> Cursor
     let mut line = cursor.line;
     let mut column = cursor.column;
     for k in cursor.at..end {
-        if bytes[k] == b'\n' {
-            line += 1;
-            column = 1;
-        } else if begins_character(bytes[k]) {
+        if bytes[k] >= b' ' && bytes[k] < 128 {
             column += 1;
+        } else {
+            (line, column) = place_past(bytes[k], line, column);
         }
     }
     Cursor {
@@ -156,4 +156,22 @@ fn moved(bytes: &[u8], cursor: Cursor, end: usize) -> Cursor
         line,
         column,
     }
+}
+
+/// The line and the column after this byte, which stands at these.
+// Most bytes are characters of their own that end no line. They don't come here.
+#[inline(never)]
+fn place_past(byte: u8, line: u64, column: u64) -> (u64, u64)
+    requires line { line + 1 < 2 ^ 64 }
+    requires column { column + 1 < 2 ^ 64 }
+    ensures line { result.0 ≡ (if is_line_feed byte then line + 1 else line) }
+    ensures column { result.1 ≡ (if is_line_feed byte then 1 else if begins byte then column + 1 else column) }
+{
+    if byte == b'\n' {
+        return (line + 1, 1);
+    }
+    if begins_character(byte) {
+        return (line, column + 1);
+    }
+    (line, column)
 }
