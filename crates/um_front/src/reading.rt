@@ -37,6 +37,16 @@ impl Reading {
         }
     }
 
+    /// Nothing was read, and there is room for as many bytes. Want of memory is the one error.
+    pub fn with_room(alloc: Global, bytes: usize) -> Result<Reading, AllocError>
+        ensures { IfOk result (λ reading. reading ≡ []) }
+    {
+        Ok(Reading {
+            bytes: Vec::with_capacity(alloc, bytes)?,
+            lexer: Some(Lexer::new(alloc)),
+        })
+    }
+
     /// The text that was read. Want of memory is the one error.
     pub fn into_text(self) -> Result<Text, AllocError>
         ensures { IfOk result (λ text. text ≡ self) }

@@ -1,6 +1,6 @@
 -- What the words of the command line ask for.
 -- Source: this project's own commands.
-use Rattle.std.specs.Prelude.{ℕ, Bool, ◌&&◌, List, [], ◌∷◌, length, Option, Some, None, codes}
+use Rattle.std.specs.Prelude.{ℕ, Bool, true, false, ◌&&◌, List, [], ◌∷◌, length, Option, Some, None, codes}
 use Rattle.std.specs.Prelude.{nat_le, nat_lt, if◌then◌else◌}
 use Rattle.std.specs.List.{list_all}
 use Rattle.std.specs.Char.{is_ascii_digit}
@@ -176,6 +176,25 @@ order_about text.Rescale = Rescale
 order_about (text.Twin budget) = Twin budget
 order_about text.Prove = Prove
 order_about text.Image = Image
+
+-- whether this calls a function
+abbrev pub calls : TextOrder → Bool
+calls text.Types = false
+calls text.Explain = false
+calls text.Annot = false
+calls text.Code = false
+calls text.Fmt = false
+calls text.Tidy = false
+calls (text.Run budget) = true
+calls (text.Steps budget) = true
+calls (text.Eval budget) = true
+calls (text.Trace budget) = true
+calls (text.Show digits budget) = true
+calls text.Conform = false
+calls text.Rescale = false
+calls (text.Twin budget) = true
+calls text.Prove = false
+calls text.Image = false
 
 -- the order that asks this of bytes
 abbrev pub order_about_bytes : BytesOrder → Order

@@ -11,7 +11,7 @@ ghost use Rattle.um_orders.specs.Orders.{order_of_three as of_three, order_of_ma
 ghost use Rattle.um_orders.specs.Orders.{rescale_order as rescale_named, twin_order as twin_named};
 ghost use Rattle.um_orders.specs.Orders.{call_order as call_named, budget_of as budget_in, are_few_digits};
 ghost use Rattle.um_orders.specs.Orders.{calls_order as calls_named, show_order as show_named, digits_of as digits_in};
-ghost use Rattle.um_orders.specs.Orders.{intake_of};
+ghost use Rattle.um_orders.specs.Orders.{intake_of, calls};
 
 use crate::Words;
 
@@ -133,6 +133,35 @@ impl Order {
             Order::Image => Intake::Text(TextOrder::Image),
             Order::Exec { budget } => Intake::Bytes(BytesOrder::Exec { budget }),
             Order::Calls { budget } => Intake::Bytes(BytesOrder::Calls { budget }),
+        }
+    }
+}
+
+impl TextOrder {
+    /// Whether it calls a function. Takes no memory.
+    pub fn calls(self) -> bool
+        ensures { result ≡ calls self }
+    {
+        match self {
+            TextOrder::Types => false,
+            TextOrder::Explain => false,
+            TextOrder::Annot => false,
+            TextOrder::Code => false,
+            TextOrder::Fmt => false,
+            TextOrder::Tidy => false,
+            TextOrder::Run { budget: _ } => true,
+            TextOrder::Steps { budget: _ } => true,
+            TextOrder::Eval { budget: _ } => true,
+            TextOrder::Trace { budget: _ } => true,
+            TextOrder::Show {
+                digits: _,
+                budget: _,
+            } => true,
+            TextOrder::Conform => false,
+            TextOrder::Rescale => false,
+            TextOrder::Twin { budget: _ } => true,
+            TextOrder::Prove => false,
+            TextOrder::Image => false,
         }
     }
 }

@@ -10,11 +10,12 @@
 mod dispatch;
 pub mod laws;
 mod quiet;
+mod room;
 mod top;
 mod words;
 
 pub use quiet::status_of;
 pub use top::serve;
 pub use um_call_answers::big_text;
-pub use um_orders::{Order, Words, order_of};
+pub use um_orders::{Intake, Order, TextOrder, Words, order_of};
 pub use um_reports::Status;

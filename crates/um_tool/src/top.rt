@@ -7,17 +7,15 @@ ghost use Rattle.um_tool.specs.Served.{IsPlanned, IsUndisturbed, Reads, Serves};
 ghost use Rattle.um_tool.specs.Headline.{IsCalm, ServesHeadline};
 
 use crate::dispatch::{answer_bytes, answer_text};
+use crate::room::{TEXT_LIMIT, reading_for};
 use std::alloc::{AllocError, Global};
 use um_call_answers::answer_big;
 use um_call_answers::laws::answers_of_images;
 use um_display::is_units;
-use um_front::{Answer, Reading};
+use um_front::Answer;
 use um_orders::{BytesOrder, Intake, Order, TextOrder, Words, order_of};
 use um_reports::{Status, reply_line, reply_to_unread};
 use um_wire::{Failed, Sink, Source, read_into, read_text, write_all};
-
-/// The longest text that is read, in bytes.
-const TEXT_LIMIT: usize = 1_048_576;
 
 /// The most bytes that are read as they are: those of an image, or of a program and its calls.
 const BYTES_LIMIT: usize = 16_777_216;
@@ -172,7 +170,7 @@ fn reply_to_text<S: Source>(
     ensures reads_told { IfOk result (λ reply. reply.status ≢ Status.ReadFault
         → S.faults source.new ≡ S.faults source.old) }
 {
-    let mut reading = Reading::new(alloc);
+    let mut reading = reading_for(alloc, order);
     match read_into(source, TEXT_LIMIT, &mut reading) {
         Ok(()) => answer_text(alloc, order, words, reading.into_text()?),
         Err(stop) => reply_to_unread(alloc, stop),
