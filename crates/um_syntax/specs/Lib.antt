@@ -15,5 +15,6 @@ pub mod Machine
 pub mod Scanning
 pub mod Decoding
 pub mod Feeding
--- Tokens that follow one another.
+-- Blocks of tokens; tokens that follow one another.
+pub mod Blocks
 pub mod Order

@@ -11,7 +11,7 @@ use Rattle.um_syntax.specs.Machine.{Scan, Reaches}
 
 -- the machine's state that a scanner is in
 abbrev pub scan_of : Scanner → Scan
-scan_of s = record { at = s.at; tokens = s.tokens.items; letters = string_bytes s.letters; pending = s.pending }
+scan_of s = record { at = s.at; tokens = s.tokens; letters = string_bytes s.letters; pending = s.pending }
 
 -- The refusal of the machine, or want of memory, which is the one free answer.
 abbrev pub Stops : LexStop → {A : Type 0} → Result A LexStop → Type 0

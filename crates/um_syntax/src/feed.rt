@@ -8,7 +8,8 @@ ghost use Rattle.um_syntax.specs.Machine.{PendingFits, PendingFits-prop};
 
 use crate::decode::{Decoded, char_len, decode_char};
 use crate::scanner::Scanner;
-use crate::token::{LexStop, NoMemory, TextStop, Tokens};
+use crate::token::{LexStop, NoMemory, TextStop};
+use crate::tokens::TokenBlocks;
 use std::alloc::{AllocError, Global};
 use std::str;
 
@@ -88,7 +89,7 @@ impl Lexer {
     /// # Errors
     ///
     /// `Utf8` if the bytes aren't UTF-8, at the length of their longest prefix that is; otherwise the refusal of `lex`.
-    pub fn finish(self) -> Result<Tokens, TextStop>
+    pub fn finish(self) -> Result<TokenBlocks, TextStop>
         ensures answer { (bytes : List ℕ) → Stands self bytes → IsTextAnswer bytes result }
         ensures spent { IsSpent self → result ≡ Err text_stop_of.NoMemory }
     {
@@ -187,7 +188,6 @@ impl Lexer {
         ensures stands { OnOk result ((bytes : List ℕ) → Stands self.old bytes → Stands self.new (bytes ++ text.now)) }
         ensures fed { OnOk result (self.new.fed ≡ self.old.fed + length text.now) }
     {
-        self.scanner.reserve(text.len())?;
         self.fed += text.len() as u32;
         let mut at = 0;
         while at < text.len() {

@@ -1,5 +1,5 @@
 //! The tokens of a text.
-ghost use Rattle.std.specs.Prelude.{◌≡◌, ◌≤◌, ◌⊎◌, List, length, IfOk, IfErr, MatchResult};
+ghost use Rattle.std.specs.Prelude.{◌≡◌, ◌≤◌, ◌⊎◌, List, length, Result, IfOk, IfErr, MatchResult};
 ghost use Rattle.std.specs.Str.{chars};
 ghost use Rattle.um_syntax.specs.declared.token.LexStop.{LexStop};
 ghost use Rattle.um_syntax.specs.declared.token.LexStop.TheVariants.{NoMemory};
@@ -9,7 +9,8 @@ ghost use Rattle.um_syntax.specs.Machine.{scanned};
 ghost use Rattle.um_syntax.specs.Scanning.{Answers};
 
 use crate::scanner::Scanner;
-use crate::token::{LexStop, Tokens};
+use crate::token::LexStop;
+use crate::tokens::{TokenBlocks, Tokens};
 use std::alloc::Global;
 
 /// The tokens of a text.
@@ -33,11 +34,21 @@ pub fn lex(alloc: Global, text: &str) -> Result<Tokens, LexStop>
         → MatchResult result (λ answer. answer ≡ tokens) (λ stop. stop ≡ NoMemory) }
     ensures fault { (stop : LexStop) → HasFault (chars text.now) stop → result ≡ Err stop ⊎ (result ≡ Err NoMemory) }
 {
-    scan_text(alloc, text)
+    in_one_piece(scan_text(alloc, text))
+}
+
+// The same answer, with the tokens in one piece.
+fn in_one_piece(answer: Result<TokenBlocks, LexStop>) -> Result<Tokens, LexStop>
+    ensures { (r : Result (List Token) LexStop) → Answers answer r → Answers result r }
+{
+    match answer {
+        Ok(blocks) => Ok(blocks.into_tokens()?),
+        Err(stop) => Err(stop),
+    }
 }
 
 // The tokens of the text, as the machine gives them.
-fn scan_text(alloc: Global, text: &str) -> Result<Tokens, LexStop>
+fn scan_text(alloc: Global, text: &str) -> Result<TokenBlocks, LexStop>
     requires { length text.now ≤ 1048576 }
     ensures { Answers result (scanned (chars text.now)) }
 {

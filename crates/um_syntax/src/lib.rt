@@ -21,9 +21,11 @@ mod place;
 mod preceding;
 mod scanner;
 mod token;
+mod tokens;
 
 pub use feed::Lexer;
 pub use lexer::lex;
 pub use place::line_column;
-pub use token::{Kind, Letters, LexStop, NoMemory, TextStop, Token, Tokens};
+pub use token::{Kind, Letters, LexStop, NoMemory, TextStop, Token};
+pub use tokens::{Blocks, TokenBlocks, Tokens};
 pub use um_vocabulary::{Keyword, Symbol};

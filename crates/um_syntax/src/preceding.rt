@@ -4,6 +4,7 @@ ghost use Rattle.std.specs.Option.{option_copied};
 ghost use Rattle.um_syntax.specs.Lexing.{is_glued, is_power_place, is_caret, is_minus};
 
 use crate::token::{Kind, Token};
+use crate::tokens::TokenBlocks;
 use um_vocabulary::Symbol;
 
 // Whether the token is `^`.
@@ -37,15 +38,14 @@ fn is_minus(token: Option<&Token>) -> bool
 }
 
 /// Whether a number after the tokens is a power.
-pub fn is_power_place(tokens: &[Token]) -> bool
+pub fn is_power_place(tokens: &TokenBlocks) -> bool
     ensures { result ≡ is_power_place tokens.now }
 {
-    is_caret(tokens.last())
-        || (is_minus(tokens.last()) && is_caret(tokens.get(tokens.len().saturating_sub(2))))
+    is_caret(tokens.last()) || (is_minus(tokens.last()) && is_caret(tokens.last_but_one()))
 }
 
 /// Whether a token that starts there directly follows the last.
-pub fn is_glued(tokens: &[Token], start: u32) -> bool
+pub fn is_glued(tokens: &TokenBlocks, start: u32) -> bool
     ensures { result ≡ is_glued tokens.now start }
 {
     match tokens.last() {

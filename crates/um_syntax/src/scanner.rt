@@ -15,7 +15,8 @@ use crate::pending::{
     starts_name,
 };
 use crate::preceding::{is_glued, is_power_place};
-use crate::token::{Kind, Letters, LexStop, Token, Tokens};
+use crate::token::{Kind, Letters, LexStop, Token};
+use crate::tokens::TokenBlocks;
 use std::alloc::{AllocError, Global};
 use um_vocabulary::{Symbol, are_slashes, double_symbol, front_symbol, keyword_of, single_symbol};
 use unicode_ident::is_xid_continue;
@@ -26,7 +27,7 @@ pub struct Scanner {
     alloc: Global,
     // The place of the next character.
     at: u32,
-    tokens: Vec<Token>,
+    tokens: TokenBlocks,
     // The letters of a name that has begun.
     letters: String,
     pending: Pending,
@@ -40,19 +41,10 @@ impl Scanner {
         Scanner {
             alloc,
             at: 0,
-            tokens: Vec::new(alloc),
+            tokens: TokenBlocks::new(alloc),
             letters: String::new(alloc),
             pending: Pending::Start,
         }
-    }
-
-    /// Makes room for so many more tokens.
-    pub fn reserve(&mut self, more: usize) -> Result<(), AllocError>
-        ensures same { scan_of self.new ≡ scan_of self.old }
-        ensures pending { self.new.pending ≡ self.old.pending }
-        ensures place { self.new.at ≡ self.old.at }
-    {
-        self.tokens.reserve(more)
     }
 
     // Puts a token after the others, if nothing has begun.
@@ -528,12 +520,12 @@ impl Scanner {
     }
 
     /// The tokens of the characters taken, once the text has ended.
-    pub fn finish(mut self) -> Result<Tokens, LexStop>
+    pub fn finish(mut self) -> Result<TokenBlocks, LexStop>
         requires { PendingFits self.pending }
         ensures { Answers result (ended (Ok (scan_of self))) }
     {
         self.close()?;
-        Ok(Tokens::from_vec(self.tokens))
+        Ok(self.tokens)
     }
 }
 

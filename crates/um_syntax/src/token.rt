@@ -142,44 +142,6 @@ impl Token {
     }
 }
 
-/// A list of tokens.
-#[derive(Drop)]
-pub struct Tokens {
-    items: Vec<Token>,
-}
-
-impl Model for Tokens {
-    ghost use Rattle.std.specs.Prelude.{List};
-    ghost use Rattle.um_syntax.specs.declared.token.Token.{Token};
-
-    ghost Value = { List Token };
-
-    ghost view = { λ t. t.items.items };
-}
-
-impl Tokens {
-    /// The tokens that the vector holds. Takes no memory.
-    pub fn from_vec(items: Vec<Token>) -> Tokens
-        ensures { result ≡ items.items }
-    {
-        Tokens { items }
-    }
-
-    /// The vector that holds the tokens. Takes no memory.
-    pub fn into_vec(self) -> Vec<Token>
-        ensures { result.items ≡ self }
-    {
-        self.items
-    }
-
-    /// The tokens, in the order of the text.
-    pub fn as_slice(&self) -> &[Token]
-        ensures { result.now ≡ self.now }
-    {
-        &self.items
-    }
-}
-
 /// Why a text has no tokens. The place is that of the leftmost fault.
 #[derive(Debug, Drop, Error)]
 pub enum LexStop {

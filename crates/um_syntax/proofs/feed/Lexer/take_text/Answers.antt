@@ -2,7 +2,7 @@ use Rattle.std.proofs.Common.{◌+◌, ◌++◌, [], take, drop, refl, sym, ap, 
 use Rattle.std.proofs.lemmas.List.{take_all, drop_all, drop-drop}
 use Rattle.std.proofs.lemmas.Str.{IsCharBoundary-start, IsCharBoundary-from_rest, chars-nil}
 use Rattle.std.specs.Str.{chars, IsCharBoundary}
-use Rattle.um_syntax.specs.Feeding.{HasRead, HasScanned}
+use Rattle.um_syntax.specs.Feeding.{HasRead}
 use Rattle.um_syntax.proofs.Feeds.{behind_is, behind_from, text_stands, scanned_now, none_read}
 use Rattle.um_syntax.specs.Scanning.{scan_of}
 use Rattle.um_syntax.proofs.Kept.{chars_on}
@@ -22,7 +22,7 @@ loop-at-init c = record {
       (record {
         scalars = h.scalars;
         place = h.place;
-        scanned = subst (λ s. HasScanned old.fault s cs (chars text)) (sym c.reserve.ensures.same) (scanned_now old.fault (scan_of old.scanner) cs (chars text) h.scanned);
+        scanned = scanned_now old.fault (scan_of old.scanner) cs (chars text) h.scanned;
         counted = h.counted;
       });
 }

@@ -23,7 +23,7 @@ returns-then-are_slashes-clause-scans c =
     let one = sym a ∙ eqb-true c.from.result 47 both.0 in
     let two = sym b ∙ eqb-true c.from-then-bytes-gt1.result 47 both.1 in
     let is = two_front text long ∙ ap (λ x. x ∷ get_or text 1 0 ∷ drop 2 text) one ∙ ap (λ x. 47 ∷ x ∷ drop 2 text) two in
-    let scans = scans_slashes s.at s.tokens.items text (drop 2 text) c.utf8.text is in
+    let scans = scans_slashes s.at s.tokens text (drop 2 text) c.utf8.text is in
     let none = nil_from_length (string_bytes s.letters) (sym s.letters.bytes.ok.0 ∙ eqb-true (string_len s.letters) 0 (sym c.is_empty.ensures ∙ c.if-not-is_empty.false)) in
-    let free = ap (λ l. scan_at s.at s.tokens.items l s.pending) none ∙ ap (λ p. scan_at s.at s.tokens.items [] p) c.requires.free in
-    subst (λ l. Scans (scan_of s) text 2 (scan_at (s.at + 2) s.tokens.items l pending.Comment)) (sym none) (subst (λ t. Scans t text 2 (scan_at (s.at + 2) s.tokens.items [] pending.Comment)) (sym free) scans)
+    let free = ap (λ l. scan_at s.at s.tokens l s.pending) none ∙ ap (λ p. scan_at s.at s.tokens [] p) c.requires.free in
+    subst (λ l. Scans (scan_of s) text 2 (scan_at (s.at + 2) s.tokens l pending.Comment)) (sym none) (subst (λ t. Scans t text 2 (scan_at (s.at + 2) s.tokens [] pending.Comment)) (sym free) scans)

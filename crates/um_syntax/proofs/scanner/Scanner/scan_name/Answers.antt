@@ -32,7 +32,7 @@ returns-clause-scans c =
     let ends = subst (λ l. ends_name (drop n l) ≡ true) bytes (c.name_len-len.ensures.ends some) in
     let letters : c.range.result.now ≡ take n text = search rules in
     let kind = c.in_ok-kind.ensures ∙ ap letters_kind letters in
-    let after = λ (k : Kind). pushed (free_at (s.at + n) s.tokens.items) k s.at (s.at + n) in
-    let scans = scans_name s.at s.tokens.items text n c.utf8.text within run (behind_name (drop n text) ends) in
-    put_scans c.put.result s.at s.tokens.items (string_bytes s.letters) s.pending (scan_of c.put.new.self) (after c.in_ok-kind.kind) text n c.requires.free c.requires.none c.put.ensures.goes c.put.ensures.len
-    (subst (λ k. Scans (free_at s.at s.tokens.items) text n (after k)) (sym kind) scans)
+    let after = λ (k : Kind). pushed (free_at (s.at + n) s.tokens) k s.at (s.at + n) in
+    let scans = scans_name s.at s.tokens text n c.utf8.text within run (behind_name (drop n text) ends) in
+    put_scans c.put.result s.at s.tokens (string_bytes s.letters) s.pending (scan_of c.put.new.self) (after c.in_ok-kind.kind) text n c.requires.free c.requires.none c.put.ensures.goes c.put.ensures.len
+    (subst (λ k. Scans (free_at s.at s.tokens) text n (after k)) (sym kind) scans)

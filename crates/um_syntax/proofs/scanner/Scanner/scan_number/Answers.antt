@@ -33,7 +33,7 @@ returns-in-Some-clause-scans c =
     let rest = take_all (length front - n) (drop n front) (omega (arith, left)) in
     let ends = subst (λ l. ends_number (drop n l) ≡ true) bytes (ap ends_number (sym rest) ∙ sym c.ends_number.ensures ∙ c.if-not-ends_number.false) in
     let behind = behind_number (drop n text) ends in
-    let power : c.is_power_place.result ≡ is_power_place s.tokens.items = search rules in
+    let power : c.is_power_place.result ≡ is_power_place s.tokens = search rules in
     let kind = ap (λ b. figures_kind b number.part number.figures) (sym power) ∙ sym c.kind.ensures ∙ c.in-Some.is in
-    put_scans c.put.result s.at s.tokens.items (string_bytes s.letters) s.pending (scan_of c.put.new.self) _ text n c.requires.free c.requires.none c.put.ensures.goes c.put.ensures.len
-    (scans_number s.at s.tokens.items text n number.part number.figures c.in-Some.kind c.utf8.text within plain run whole.1 kind behind.0 behind.1)
+    put_scans c.put.result s.at s.tokens (string_bytes s.letters) s.pending (scan_of c.put.new.self) _ text n c.requires.free c.requires.none c.put.ensures.goes c.put.ensures.len
+    (scans_number s.at s.tokens text n number.part number.figures c.in-Some.kind c.utf8.text within plain run whole.1 kind behind.0 behind.1)

@@ -20,7 +20,7 @@ put-requires-clause-room c =
     let b : c.from-2.result ≡ get_or text 1 0 = search rules in
     let low : get_or text 1 0 < 128 = search rules in
     let symbol = ap (λ x. front_symbol x (get_or text 1 0)) (sym a) ∙ ap (λ x. front_symbol c.from.result x) (sym b) ∙ sym c.front_symbol.ensures ∙ c.in-Some.is in
-    let scans = scans_symbol s.at s.tokens.items text (drop 2 text) (get_or text 0 0) (get_or text 1 0) c.in-Some.symbol c.in-Some.len c.utf8.text (two_front text long) low symbol in
+    let scans = scans_symbol s.at s.tokens text (drop 2 text) (get_or text 0 0) (get_or text 1 0) c.in-Some.symbol c.in-Some.len c.utf8.text (two_front text long) low symbol in
     omega (arith, scans.front.0, c.requires.room)
 
 pub returns-in-Some-clause-scans : goal.returns-in-Some-clause-scans
@@ -32,5 +32,5 @@ returns-in-Some-clause-scans c =
     let b : c.from-2.result ≡ get_or text 1 0 = search rules in
     let low : get_or text 1 0 < 128 = search rules in
     let symbol = ap (λ x. front_symbol x (get_or text 1 0)) (sym a) ∙ ap (λ x. front_symbol c.from.result x) (sym b) ∙ sym c.front_symbol.ensures ∙ c.in-Some.is in
-    put_scans c.put.result s.at s.tokens.items (string_bytes s.letters) s.pending (scan_of c.put.new.self) _ text c.in-Some.len c.requires.free c.requires.none c.put.ensures.goes c.put.ensures.len
-    (scans_symbol s.at s.tokens.items text (drop 2 text) (get_or text 0 0) (get_or text 1 0) c.in-Some.symbol c.in-Some.len c.utf8.text (two_front text long) low symbol)
+    put_scans c.put.result s.at s.tokens (string_bytes s.letters) s.pending (scan_of c.put.new.self) _ text c.in-Some.len c.requires.free c.requires.none c.put.ensures.goes c.put.ensures.len
+    (scans_symbol s.at s.tokens text (drop 2 text) (get_or text 0 0) (get_or text 1 0) c.in-Some.symbol c.in-Some.len c.utf8.text (two_front text long) low symbol)

@@ -37,7 +37,7 @@ returns-clause-scans c =
     let letter = subst (λ l. bytes_eq l (95 ∷ []) ≡ false) letters (sym c.eq.ensures ∙ c.if-eq.false) in
     let word = subst (λ l. keyword_of l ≡ None) letters (sym c.keyword_of.ensures ∙ none_of c.keyword_of.result (sym c.is_some.ensures ∙ c.if-is_some.false)) in
     let var = ap (λ l. kind.Var l) (c.in_ok-from_front.ensures ∙ ap (take n) bytes) in
-    let after = λ (k : Kind). pushed (free_at (s.at + (n + 1)) s.tokens.items) k s.at (s.at + (n + 1)) in
-    let scans = scans_variable s.at s.tokens.items text n c.utf8.text c.requires.some c.requires.quote within run (behind_name (drop n name) ends) letter word in
-    put_scans c.put.result s.at s.tokens.items (string_bytes s.letters) s.pending (scan_of c.put.new.self) (after (kind.Var c.in_ok-from_front.field-0)) text (n + 1) c.requires.free c.requires.none c.put.ensures.goes c.put.ensures.len
-    (subst (λ k. Scans (free_at s.at s.tokens.items) text (n + 1) (after k)) (sym var) scans)
+    let after = λ (k : Kind). pushed (free_at (s.at + (n + 1)) s.tokens) k s.at (s.at + (n + 1)) in
+    let scans = scans_variable s.at s.tokens text n c.utf8.text c.requires.some c.requires.quote within run (behind_name (drop n name) ends) letter word in
+    put_scans c.put.result s.at s.tokens (string_bytes s.letters) s.pending (scan_of c.put.new.self) (after (kind.Var c.in_ok-from_front.field-0)) text (n + 1) c.requires.free c.requires.none c.put.ensures.goes c.put.ensures.len
+    (subst (λ k. Scans (free_at s.at s.tokens) text (n + 1) (after k)) (sym var) scans)
