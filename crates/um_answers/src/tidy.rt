@@ -8,7 +8,7 @@ use std::alloc::{AllocError, Global};
 use std::str;
 use um_front::{Answer, Text, TextParts, read_tokens};
 use um_reports::{Reply, Status, reply_to_text};
-use um_syntax::{Token, Tokens};
+use um_syntax::{Token, TokenBlocks};
 use um_tidy::tidy_text;
 
 /// The answer to `tidy` about a text.
@@ -27,13 +27,14 @@ pub fn answer_tidy(alloc: Global, text: Text) -> Answer
 
 /// The answer about a text with these tokens.
 #[tactic(auto, unfolding(crate::specs::TidyAnswer::TidyAnswer))]
-fn answer_tokens(alloc: Global, bytes: Vec<u8>, tokens: Tokens) -> Answer
+fn answer_tokens(alloc: Global, bytes: Vec<u8>, tokens: TokenBlocks) -> Answer
     requires tokens { IsTextAnswer bytes.items (Ok tokens) }
     requires short { length bytes.items ≤ 1048576 }
     ensures { IfOk result (λ reply. TidyAnswer bytes.items reply.text.items reply.status) }
 {
+    let tokens = tokens.into_tokens()?;
     let text = tidied(alloc, &bytes, tokens.as_slice());
-    match read_tokens(alloc, bytes, tokens) {
+    match read_tokens(alloc, bytes, TokenBlocks::from_tokens(alloc, tokens)) {
         Ok(read) => {
             read.discard();
             Ok(Reply {

@@ -6,7 +6,7 @@ ghost use Rattle.um_explain_answers.specs.ExplainAnswer.{ExplainAnswer};
 use crate::tokens::{answer_tokens, explain_text};
 use std::alloc::Global;
 use um_front::{Answer, Text, TextParts};
-use um_syntax::{TextStop, Tokens};
+use um_syntax::{TextStop, TokenBlocks};
 
 /// The answer to `explain` about a text: that of `types`; and of a text that is refused, the report line, the source
 /// line with a caret, and what is wrong.
@@ -23,13 +23,14 @@ pub fn answer_explain(alloc: Global, text: Text) -> Answer
 }
 
 /// The answer about a text with these tokens, or without tokens.
-fn answer_bytes(alloc: Global, bytes: &[u8], tokens: Result<Tokens, TextStop>) -> Answer
+fn answer_bytes(alloc: Global, bytes: &[u8], tokens: Result<TokenBlocks, TextStop>) -> Answer
     requires short { length bytes.now ≤ 1048576 }
     requires tokens { IsTextAnswer bytes.now tokens }
     ensures { IfOk result (λ reply. ExplainAnswer bytes.now reply.text.items reply.status) }
 {
     match tokens {
         Ok(tokens) => {
+            let tokens = tokens.into_tokens()?;
             let answer = answer_tokens(alloc, bytes, tokens.as_slice());
             drop(tokens);
             answer

@@ -2,7 +2,7 @@
 use crate::reading::Reading;
 use std::alloc::{AllocError, Global};
 use std::marker::Model;
-use um_syntax::{TextStop, Tokens};
+use um_syntax::{TextStop, TokenBlocks};
 use um_wire::Taker;
 
 /// A text of at most 1,048,576 bytes with its tokens, or why it has none; contracts see its bytes.
@@ -15,7 +15,7 @@ pub struct Text {
 #[derive(Drop)]
 pub struct TextParts {
     pub bytes: Vec<u8>,
-    pub tokens: Result<Tokens, TextStop>,
+    pub tokens: Result<TokenBlocks, TextStop>,
 }
 
 impl Model for Text {

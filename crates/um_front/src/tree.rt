@@ -11,7 +11,7 @@ use crate::text::{Text, TextParts};
 use std::alloc::Global;
 use um_parse::parse_tokens;
 use um_reports::{reply_to_text, reply_to_tokens};
-use um_syntax::Tokens;
+use um_syntax::TokenBlocks;
 
 /// The program of a text as it is written, or the answer to a text that is none.
 ///
@@ -31,7 +31,7 @@ pub fn read(alloc: Global, text: Text) -> Result<ReadText, Answer>
 
 /// The program of a text with these tokens, or the answer to tokens that are none.
 #[tactic(auto, unfolding(crate::specs::Refused::IsUnread))]
-pub fn read_tokens(alloc: Global, bytes: Vec<u8>, tokens: Tokens) -> Result<ReadText, Answer>
+pub fn read_tokens(alloc: Global, bytes: Vec<u8>, tokens: TokenBlocks) -> Result<ReadText, Answer>
     requires tokens { IsTextAnswer bytes.items (Ok tokens) }
     requires short { length bytes.items ≤ 1048576 }
     ensures bytes { IfOk result (λ read. read.bytes.items ≡ bytes.items) }

@@ -16,7 +16,6 @@ mod places;
 mod prefix;
 mod program_parse;
 mod program_reader;
-mod unread;
 
 pub use prefix::Prefix;
 pub use program_parse::{parse, parse_tokens};

@@ -1,5 +1,5 @@
 // Parsing a program, with the places of its refusals in the text.
-ghost use Rattle.std.specs.Prelude.{◌≡◌, ◌<◌, ◌≤◌, ◌^◌, true, IfOk, Err, length};
+ghost use Rattle.std.specs.Prelude.{◌≡◌, ◌+◌, ◌<◌, ◌≤◌, ◌^◌, true, ◌++◌, [], IfOk, Err, length, drop};
 ghost use Rattle.um_tree.specs.RawTree.{program_syntax};
 ghost use Rattle.um_reader.specs.ReadTo.{ReadAll};
 ghost use Rattle.um_unit_texts.specs.UnitStops.{greatest_height};
@@ -12,10 +12,9 @@ ghost use Rattle.um_parse.specs.Parsed.{Parsed, ReadAt, Limited};
 use crate::limits::first_passed;
 use crate::places::Places;
 use crate::program_reader::ProgramReader;
-use crate::unread::Unread;
 use std::alloc::Global;
 use um_reader::{ReadStop, Reader, Taken, read_all};
-use um_syntax::{Token, Tokens};
+use um_syntax::{Blocks, Token, TokenBlocks};
 use um_tree::RawProgram;
 use um_types::{LimitKind, ParseStop};
 use um_unit_texts::place;
@@ -89,40 +88,61 @@ pub struct ReadProgram {
 }
 
 // Nothing more is read.
-fn stopped(reader: ProgramReader, stop: ParseStop) -> Result<ReadProgram, ParseStop>
+fn stopped(
+    reader: ProgramReader,
+    blocks: Blocks,
+    block: Vec<Token>,
+    stop: ParseStop,
+) -> Result<ReadProgram, ParseStop>
     ensures { result ≡ Err stop }
 {
     drop(reader);
+    drop(blocks);
+    drop(block);
     Err(stop)
 }
 
+// Goes on after a token of the block: in the block, or in the next one if the block has no more. Answers how many tokens
+// of it are read.
+#[inline(always)]
+fn after(blocks: &mut Blocks, block: &mut Vec<Token>, k: usize) -> usize
+    requires { k < length block.old.items }
+    ensures unread { drop (k + 1) block.old.items ++ blocks.old ≡ drop result block.new.items ++ blocks.new }
+    ensures all { length block.new.items ≤ result → blocks.new ≡ [] }
+{
+    if k + 1 < block.len() {
+        return k + 1;
+    }
+    *block = blocks.next_block();
+    0
+}
+
 // The program that these tokens are, whatever its other limits.
-fn read_tokens(alloc: Global, tokens: Tokens, end: u32) -> Result<ReadProgram, ParseStop>
+fn read_tokens(alloc: Global, tokens: TokenBlocks, end: u32) -> Result<ReadProgram, ParseStop>
     ensures { ReadAt tokens end result }
 {
     let mut reader = ProgramReader::new(alloc);
     let mut places = Places::none();
-    let mut unread = Unread::all(tokens);
-    while let Some(mut token) = unread.take_next() {
+    let mut blocks = tokens.into_blocks();
+    let mut block = blocks.next_block();
+    let mut k = 0;
+    while k < block.len() {
+        let token = &mut block[k];
         let at = token.start;
         places.add(at);
-        match reader.take(alloc, &mut token) {
-            Ok(Taken::Goes) => drop(token),
-            Ok(Taken::Stops) => {
-                drop(token);
-                return stopped(reader, ParseStop::Syntax { at });
-            }
+        match reader.take(alloc, token) {
+            Ok(Taken::Goes) => {}
+            Ok(Taken::Stops) => return stopped(reader, blocks, block, ParseStop::Syntax { at }),
             Ok(Taken::High) => {
-                drop(token);
                 let kind = LimitKind::Height;
-                return stopped(reader, ParseStop::Limit { kind, at });
+                return stopped(reader, blocks, block, ParseStop::Limit { kind, at });
             }
-            Err(_) => {
-                drop(token);
-                return stopped(reader, ParseStop::NoMemory);
-            }
+            Err(_) => return stopped(reader, blocks, block, ParseStop::NoMemory),
         }
+        k = after(&mut blocks, &mut block, k);
     }
+    drop(block);
+    drop(blocks);
     let spaced = places.rise_to(end);
     match reader.finish(alloc) {
         Ok(Some(program)) => Ok(ReadProgram { program, spaced }),
@@ -133,7 +153,7 @@ fn read_tokens(alloc: Global, tokens: Tokens, end: u32) -> Result<ReadProgram, P
 
 /// The program that the tokens are, as [`parse`] gives it, and with its errors. The tokens are handed over: a name
 /// moves from its token to the program.
-pub fn parse_tokens(alloc: Global, tokens: Tokens, end: u32) -> Result<RawProgram, ParseStop>
+pub fn parse_tokens(alloc: Global, tokens: TokenBlocks, end: u32) -> Result<RawProgram, ParseStop>
     requires text { length tokens ≤ end }
     ensures parsed { Parsed tokens end result }
 {

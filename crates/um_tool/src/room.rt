@@ -11,7 +11,7 @@ pub(crate) const TEXT_LIMIT: usize = 1_048_576;
 /// Nothing was read of a text about which this is asked.
 ///
 /// If nothing is called, there is room for the longest text from the start, if there is memory for it: the text isn't
-/// moved while it grows, and its tokens grow in place after it. Otherwise less memory is taken before the call.
+/// moved while it grows. Otherwise less memory is taken before the call.
 pub(crate) fn reading_for(alloc: Global, order: TextOrder) -> Reading
     ensures { result ≡ [] }
 {
