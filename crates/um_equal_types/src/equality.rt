@@ -1,6 +1,8 @@
 //! The rows of two types that must be equal.
 
-ghost use Rattle.std.specs.Prelude.{[], ◌∷◌, map};
+ghost use Rattle.std.specs.Prelude.{◌≡◌, [], ◌∷◌, IfOk, map};
+ghost use Rattle.um_units.specs.PowerMap.{mul, inv};
+ghost use Rattle.um_units.specs.Range.{fits, RangeUnless};
 ghost use Rattle.um_tree.specs.TypeTree.{type_tree};
 ghost use Rattle.um_equal_types.specs.Against.{never, unit_against, units_against, against as against_steps};
 ghost use Rattle.um_equal_types.specs.Against.{types_against as types_against_steps};
@@ -12,6 +14,20 @@ use std::alloc::Global;
 use um_tree::Ty;
 use um_units::{Atom, Unit, UnitStop};
 
+// A unit of more terms has them in memory of its own, and a product with it takes many times as long as a look at both.
+const SHORT: usize = 2;
+
+/// The first unit over the second.
+fn quotient(alloc: Global, left: &Unit, right: &Unit) -> Result<Unit, UnitStop>
+    ensures exact { IfOk result (λ unit. unit ≡ mul left.now (inv right.now)) }
+    ensures range { RangeUnless result (fits (mul left.now (inv right.now))) }
+{
+    if left.terms().len() > SHORT && left.same(right) {
+        return Ok(Unit::one(alloc));
+    }
+    left.mul_pow(alloc, right, -1)
+}
+
 /// Pushes the row of two units: the first over the second.
 pub fn push_quotient(
     alloc: Global,
@@ -22,7 +38,7 @@ pub fn push_quotient(
 ) -> Result<(), RowStop>
     ensures { ArePushed (unit_against at left.now right.now ∷ []) rows.old.items rows.new.items result }
 {
-    match left.mul_pow(alloc, right, -1) {
+    match quotient(alloc, left, right) {
         Ok(unit) => {
             rows.push(Row { at, unit })?;
             Ok(())
