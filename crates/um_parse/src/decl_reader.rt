@@ -183,8 +183,9 @@ impl DeclReader {
             Takes machine_of_declarations greatest_height (reader_state self.old) token.old t (reader_state self.new)) }
         ensures kept { IfOk result (λ t. IfStops t (BeginsAlike token.new token.old)) }
     {
-        match &self.place {
+        match &mut self.place {
             DeclPlace::Function => self.function.take(alloc, token),
+            DeclPlace::Short(_, _, unit) => take_in_unit(unit, alloc, token),
             _ => self.take_any(alloc, token),
         }
     }

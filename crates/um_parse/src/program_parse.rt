@@ -102,8 +102,8 @@ fn stopped(
     Err(stop)
 }
 
-// Goes on after a token of the block: in the block, or in the next one if the block has no more. Answers how many tokens
-// of it are read.
+// Goes on after a token of the block: in the block, or in the next one if the block has no more. Answers how many
+// tokens of it are read.
 #[inline(always)]
 fn after(blocks: &mut Blocks, block: &mut Vec<Token>, k: usize) -> usize
     requires { k < length block.old.items }

@@ -9,7 +9,7 @@ use Rattle.std.proofs.lemmas.Option.{none-some, same_Some, slice_get_past, slice
 use Rattle.um_syntax.specs.declared.token.Token.{Token}
 use Rattle.um_syntax.specs.Blocks.{joined, AreWhole}
 
-pub length-joined : (bs : List (Vec Token)) → AreWhole bs → length (joined bs) ≡ length bs * 1024
+pub length-joined : (bs : List (Vec Token)) → AreWhole bs → length (joined bs) ≡ length bs * 256
 length-joined [] w = refl
 length-joined (b ∷ bs) w =
     let more = length-joined bs w.1 in
@@ -20,7 +20,7 @@ pub joined-push : (bs : List (Vec Token)) (b : Vec Token) → joined (bs ++ b �
 joined-push [] b = append-nil b.items
 joined-push (a ∷ bs) b = ap (λ ts. a.items ++ ts) (joined-push bs b) ∙ sym (append_assoc a.items (joined bs) b.items)
 
-pub whole-push : (bs : List (Vec Token)) (b : Vec Token) → AreWhole bs → length b.items ≡ 1024 → AreWhole (bs ++ b ∷ [])
+pub whole-push : (bs : List (Vec Token)) (b : Vec Token) → AreWhole bs → length b.items ≡ 256 → AreWhole (bs ++ b ∷ [])
 whole-push [] b w is = (is, tt {0})
 whole-push (a ∷ bs) b w is = (w.0, whole-push bs b w.1 is)
 
@@ -43,13 +43,13 @@ back_right xs ys k long =
     right xs ys (length (xs ++ ys) - k) (length ys - k) (omega (arith, both, long))
 
 -- what stands before the end of blocks stands before the end of the last
-pub back_of_last : (bs : List (Vec Token)) (b : Vec Token) (k : ℕ) → AreWhole bs → slice_get bs (length bs - 1) ≡ Some b → k ≤ 1024
-    → slice_get (joined bs) (length (joined bs) - k) ≡ slice_get b.items (1024 - k)
+pub back_of_last : (bs : List (Vec Token)) (b : Vec Token) (k : ℕ) → AreWhole bs → slice_get bs (length bs - 1) ≡ Some b → k ≤ 256
+    → slice_get (joined bs) (length (joined bs) - k) ≡ slice_get b.items (256 - k)
 back_of_last [] b k w is few = absurd (none-some b is)
 back_of_last (a ∷ []) b k w is few =
     let same : joined (a ∷ []) ≡ a.items = append-nil a.items in
     ap (λ (ts : List Token). slice_get ts (length ts - k)) same ∙ ap (λ (n : ℕ). slice_get a.items (n - k)) w.0
-    ∙ ap (λ (x : Vec Token). slice_get x.items (1024 - k)) (same_Some a b is)
+    ∙ ap (λ (x : Vec Token). slice_get x.items (256 - k)) (same_Some a b is)
 back_of_last (a ∷ next ∷ bs) b k w is few =
     let size = length-joined (next ∷ bs) w.1 in
     let place : length (a ∷ next ∷ bs) - 1 ≡ suc (length (next ∷ bs) - 1) = omega arith in

@@ -8,7 +8,7 @@ abbrev pub joined : List (Vec Token) → List Token
 joined [] = []
 joined (block ∷ blocks) = block.items ++ joined blocks
 
--- each of the blocks has 1,024 tokens
+-- each of the blocks has 256 tokens
 abbrev pub AreWhole : List (Vec Token) → Type 0
 AreWhole [] = Unit {0}
-AreWhole (block ∷ blocks) = (length block.items ≡ 1024) × AreWhole blocks
+AreWhole (block ∷ blocks) = (length block.items ≡ 256) × AreWhole blocks

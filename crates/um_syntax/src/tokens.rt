@@ -10,7 +10,7 @@ use std::mem;
 use std::vec::IntoIter;
 
 // How many tokens a whole block has.
-const BLOCK: usize = 1_024;
+const BLOCK: usize = 256;
 
 // The greatest number of whole blocks. The number of tokens fits in a `usize`.
 const MOST_BLOCKS: usize = 4_294_967_296;
@@ -194,7 +194,7 @@ impl TokenBlocks {
 fn from_end(blocks: &[Vec<Token>], k: usize) -> Option<&Token>
     requires whole { AreWhole blocks.now }
     requires some { 0 < k }
-    requires few { k ≤ 1024 }
+    requires few { k ≤ 256 }
     ensures { option_copied result ≡ slice_get (joined blocks.now) (length (joined blocks.now) - k) }
 {
     match blocks.last() {
@@ -226,7 +226,7 @@ impl Model for Blocks {
 }
 
 impl Blocks {
-    /// Takes the next block. It is empty only if all blocks were taken.
+    /// Takes the next block. It is empty only if no token is left.
     #[inline(never)]
     pub fn next_block(&mut self) -> Vec<Token>
         ensures taken { self.old ≡ result.items ++ self.new }

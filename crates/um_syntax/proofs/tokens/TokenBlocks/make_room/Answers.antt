@@ -10,7 +10,7 @@ invariant_of-self-2 c =
     let last = c.self.inside.last in
     let same : c.replace-last.result ≡ last = c.replace-last.ensures.value in
     let pushed = c.in_ok-push.ensures.items ∙ ap (λ v. whole.items ++ v ∷ []) same in
-    let full : length last.items ≡ 1024 = omega (arith, last.ok.0, c.len.ensures, c.if-len-ne-BLOCK.false) in
+    let full : length last.items ≡ 256 = omega (arith, last.ok.0, c.len.ensures, c.if-len-ne-BLOCK.false) in
     let few = c.if-len-ge-MOST_BLOCKS.false in
     rw pushed (whole-push whole.items last c.self.invariant.0 full, (let size = length_push whole.items last in omega (arith, size, few, whole.ok.0)))
 
