@@ -2,8 +2,8 @@
 //!
 //! Each call takes one token at a place in the text. It changes the expression that has begun, and says that the token
 //! goes on, or that the expression stops before it, and what was read then (`um_operands::Step`). `um_expr` decides
-//! which call is made, by what is in focus. The questions (`can_begin`, `can_argue` and the like) say whether a token of
-//! a kind would go on. They take no token and change nothing.
+//! which call is made, by what is in focus. The questions (`can_begin`, `can_argue` and the like) say whether a token
+//! of a kind would go on. They take no token and change nothing.
 //!
 //! ```
 //! let mut begun = Begun::new(alloc);

@@ -161,7 +161,7 @@ fn in_params(names: &mut NameTable, alloc: Global, params: &[RawParam]) -> Resul
 
 /// The named unit variables of a function's head, in the order of their numbers: its unit parameters, and after them
 /// each other one that its parameters and its result name, once, by its first occurrence. They are all variables of a
-/// function whose body names none. Fails for want of memory alone, or where there are 2^32 - 1 names.
+/// function whose body names none. Fails for want of memory alone, or if there are 2^32 - 1 names.
 #[tactic(auto, using(crate::proofs::Occurrences::both_occur))]
 pub fn head_variables(
     alloc: Global,

@@ -1,5 +1,5 @@
-//! The grammar of declarations and programs: from tokens to raw trees. A [`Prefix`] is tokens that begin a program, read
-//! once, and says which tokens go on.
+//! The grammar of declarations and programs: from tokens to raw trees. A [`Prefix`] is tokens that begin a program,
+//! read once, and says which tokens go on.
 //!
 //! ```
 //! let tokens = lex(alloc, text)?;

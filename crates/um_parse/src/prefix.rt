@@ -18,8 +18,8 @@ use std::alloc::{AllocError, Global};
 use um_reader::{Reader, Taken};
 use um_syntax::{Kind, Token};
 
-/// Tokens that begin a program, which were read: a viable prefix, as in Knuth, On the Translation of Languages from Left
-/// to Right.
+/// Tokens that begin a program, which were read: a viable prefix, as in Knuth, On the Translation of Languages from
+/// Left to Right.
 #[derive(Drop)]
 pub struct Prefix {
     reader: ProgramReader,
@@ -54,8 +54,8 @@ impl Prefix {
         Ok(Prefix { reader })
     }
 
-    /// Whether the tokens and one more of this kind, glued to the last or not, begin a program of any height. It takes no
-    /// memory, and time for the forms that are open alone.
+    /// Whether the tokens and one more of this kind, glued to the last or not, begin a program of any height. It takes
+    /// no memory, and time for the forms that are open alone.
     pub fn goes_on(&self, kind: &Kind, glued: bool) -> bool
         ensures { (tokens : List Token) (token : Token) → HasRead self.now tokens → token.kind ≡ kind.now
             → token.glued ≡ glued → Decides result (BeginsText IsProgram (tokens ++ token ∷ [])) }
