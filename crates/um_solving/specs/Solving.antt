@@ -54,7 +54,7 @@ IsRefusal j (refusal.PowerRange at) = j ≡ passes_range at
 IsRefusal j refusal.Slots = j ≡ too_many_slots
 IsRefusal j refusal.NoMemory = Unit {0}
 
--- where each unit parameter is a unit of its own: the solution, or the refusal of a function with these rows, whatever
+-- with each unit parameter as a unit of its own: the solution, or the refusal of a function with these rows, whatever
 -- its types and its place
 abbrev pub AreRigidlySolved : ℕ → ℕ → ℕ → List Row → Result Solution Refusal → Type 0
 AreRigidlySolved bases parameters slots rows (Ok solution) =
@@ -62,7 +62,7 @@ AreRigidlySolved bases parameters slots rows (Ok solution) =
 AreRigidlySolved bases parameters slots rows (Err r) =
     (at : ℕ) (g : Signature) → IsRefusal (by_rows bases parameters slots at g rows) r
 
--- the place is that of the function's name
+-- types are refused only if a power of theirs is out of range, and the place is that of the function's name
 abbrev pub RefusesUnless : ℕ → Bool → Refusal → Type 0
 RefusesUnless at fit (refusal.Units k) = ⊥
 RefusesUnless at fit (refusal.NotGeneral k) = ⊥
