@@ -45,7 +45,7 @@ impl From<AllocError> for SolveStop {
 ///
 /// The first row without a solution decides, with its place. It is `NotGeneral` if the rows up to it have a solution
 /// with the unit parameters as slots like the others, and `Units` otherwise. `PowerRange` tells the place of a row at
-/// which a power is out of range, which is a rule of this project's own. `NoMemory` may come in place of each answer.
+/// which a power is out of range; the range is this project's own. `NoMemory` may come in place of each answer.
 pub fn rigid_solver(
     alloc: Global,
     slots: u32,

@@ -20,8 +20,8 @@ use um_tree::{Ty, Types};
 ///
 /// # Errors
 ///
-/// `PowerRange` at `at`, the place of the function's name, if a power of these types is out of range, which is a rule of
-/// this project's own, and `NoMemory`.
+/// `PowerRange` at `at`, the place of the function's name, if a power of these types is out of range; the range is this
+/// project's own. `NoMemory` otherwise.
 pub fn solved_types(alloc: Global, solver: &Solver, rows: &Rows, at: u32) -> Result<Types, Refusal>
     requires { solver.now.spent ≡ false }
     ensures solved { IfOk result (λ types. type_trees types
