@@ -1,8 +1,8 @@
 use Rattle.std.proofs.Common.{ap}
 use Rattle.um_rows.specs.FirstUnsolvable.{solved, unsolved, out_of_range}
 use Rattle.um_rows.specs.Judgement.{by_slots}
-use Rattle.um_infer.proofs.SolvingSteps.{own_start}
-use Rattle.um_infer.proofs.solving.row_refusal.Goals as goal
+use Rattle.um_solving.proofs.SolvingSteps.{own_start}
+use Rattle.um_solving.proofs.solving.row_refusal.Goals as goal
 
 pub returns-in-Ok : goal.returns-in-Ok
 returns-in-Ok c = λ row. (row, ap (by_slots row c.args.at) (own_start c.args.slots c.args.rows.now (solved c.in-Ok.solver.units) c.in-Ok.ensures.solves))

@@ -6,7 +6,7 @@ ghost use Rattle.um_elim.specs.Solution.{own_variables, rigid_units};
 ghost use Rattle.um_equal_types.specs.declared.row.Row.{Row};
 ghost use Rattle.um_rows.specs.FirstUnsolvable.{solve, rows_up_to};
 ghost use Rattle.um_rows.specs.Judgement.{by_slots};
-ghost use Rattle.um_infer.specs.Forming.{IsRowAdded, AreSolved, AreRigidlySolved, IsRefusal};
+ghost use Rattle.um_solving.specs.Solving.{IsRowAdded, AreSolved, AreRigidlySolved, IsRefusal};
 
 use crate::refusal::Refusal;
 use std::alloc::{AllocError, Global};
@@ -26,7 +26,7 @@ pub(crate) enum SolveStop {
 
 impl From<AllocError> for SolveStop {
     ghost use Rattle.std.specs.Prelude.{◌≡◌};
-    ghost use Rattle.um_infer.specs.declared.solving.SolveStop.TheVariants.{NoMemory};
+    ghost use Rattle.um_solving.specs.declared.solving.SolveStop.TheVariants.{NoMemory};
 
     ghost from_gives = { λ _ stop. stop ≡ NoMemory };
 
@@ -35,9 +35,18 @@ impl From<AllocError> for SolveStop {
     }
 }
 
-/// The solver after all rows, with each unit parameter as a unit of its own, or why there is none. A row that has no
-/// solution then is NotGeneral if the rows up to it have one with the unit parameters as slots like the others.
-pub(crate) fn rigid_solver(
+/// The solver after all rows of a function, with each unit parameter as a unit of its own: row after row by elimination
+/// (Kennedy 1996).
+///
+/// `slots` says how many slots the rows are over, at most 2,000; the first `parameters` of them are those of the unit
+/// parameters. `bases` is how many base units the program has.
+///
+/// # Errors
+///
+/// The first row without a solution decides, with its place. It is `NotGeneral` if the rows up to it have a solution
+/// with the unit parameters as slots like the others, and `Units` otherwise. `PowerRange` tells the place of a row at
+/// which a power is out of range; the range is this project's own. `NoMemory` may come in place of each answer.
+pub fn rigid_solver(
     alloc: Global,
     slots: u32,
     bases: u32,
@@ -103,7 +112,13 @@ fn solve_rows(
 {
     let mut solver = Solver::with_parameters(alloc, slots, bases, parameters)?;
     for i in 0..rows.len() {
-        add_row(alloc, &mut solver, i, &rows[i])?;
+        match add_row(alloc, &mut solver, i, &rows[i]) {
+            Ok(()) => {}
+            Err(stop) => {
+                drop(solver);
+                return Err(stop);
+            }
+        }
     }
     Ok(solver)
 }

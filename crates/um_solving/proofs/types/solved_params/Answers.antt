@@ -6,8 +6,8 @@ use Rattle.um_units.specs.PowerMap.{nth}
 use Rattle.um_tree.specs.declared.types.Ty.{Ty}
 use Rattle.um_tree.specs.TypeTree.{type_tree}
 use Rattle.um_tree.specs.Typing.{put}
-use Rattle.um_infer.proofs.FormingSteps.{refused_among}
-use Rattle.um_infer.proofs.forming.solved_params.Goals as goal
+use Rattle.um_solving.proofs.SolvedTypes.{refused_among}
+use Rattle.um_solving.proofs.types.solved_params.Goals as goal
 
 pub returns-in_err-solved_type-clause-range : goal.returns-in_err-solved_type-clause-range
 returns-in_err-solved_type-clause-range c =

@@ -5,7 +5,7 @@ use um_rows::RowStop;
 
 /// Why a function or a call has no scheme, with its place as a byte offset.
 #[derive(Clone, Copy)]
-pub(crate) enum Refusal {
+pub enum Refusal {
     /// Its first row that no units satisfy together with those before it.
     Units { at: u32 },
     /// Its first row that some units satisfy, but none in which each unit parameter is a unit of its own.
@@ -20,7 +20,7 @@ pub(crate) enum Refusal {
 
 impl From<RowStop> for Refusal {
     ghost use Rattle.std.specs.Prelude.{◌≡◌};
-    ghost use Rattle.um_infer.specs.Refusals.{refusal_of};
+    ghost use Rattle.um_solving.specs.Refusals.{refusal_of};
 
     ghost from_gives = { λ row_stop refusal. refusal ≡ refusal_of row_stop };
 
@@ -35,7 +35,7 @@ impl From<RowStop> for Refusal {
 
 impl From<AllocError> for Refusal {
     ghost use Rattle.std.specs.Prelude.{◌≡◌};
-    ghost use Rattle.um_infer.specs.declared.refusal.Refusal.TheVariants.{NoMemory};
+    ghost use Rattle.um_solving.specs.declared.refusal.Refusal.TheVariants.{NoMemory};
 
     ghost from_gives = { λ _ refusal. refusal ≡ NoMemory };
 
@@ -46,7 +46,7 @@ impl From<AllocError> for Refusal {
 
 impl<T: Drop> From<AllocFailed<T>> for Refusal {
     ghost use Rattle.std.specs.Prelude.{◌≡◌};
-    ghost use Rattle.um_infer.specs.declared.refusal.Refusal.TheVariants.{NoMemory};
+    ghost use Rattle.um_solving.specs.declared.refusal.Refusal.TheVariants.{NoMemory};
 
     ghost from_gives = { λ _ refusal. refusal ≡ NoMemory };
 

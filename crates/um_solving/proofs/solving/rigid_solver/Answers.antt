@@ -6,9 +6,9 @@ use Rattle.um_elim.specs.Solution.{own_variables}
 use Rattle.um_equal_types.specs.declared.row.Row.{Row}
 use Rattle.um_rows.specs.FirstUnsolvable.{solve}
 use Rattle.um_rows.specs.Judgement.{by_slots}
-use Rattle.um_infer.specs.Forming.{IsRefusal}
-use Rattle.um_infer.proofs.SolvingSteps.{refused_for_row}
-use Rattle.um_infer.proofs.solving.rigid_solver.Goals as goal
+use Rattle.um_solving.specs.Solving.{IsRefusal}
+use Rattle.um_solving.proofs.SolvingSteps.{refused_for_row}
+use Rattle.um_solving.proofs.solving.rigid_solver.Goals as goal
 
 pub row_refusal-requires-clause-variables : goal.row_refusal-requires-clause-variables
 row_refusal-requires-clause-variables c =

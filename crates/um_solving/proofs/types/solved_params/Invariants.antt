@@ -4,7 +4,7 @@ use Rattle.um_units.specs.PowerMap.{nth}
 use Rattle.um_tree.specs.TypeTree.{type_tree}
 use Rattle.um_tree.specs.Typing.{put}
 use Rattle.um_elim.specs.Application.{type_fits}
-use Rattle.um_infer.proofs.forming.solved_params.Given as goal
+use Rattle.um_solving.proofs.types.solved_params.Given as goal
 
 abbrev pub invariant-loop-ty : goal.invariant-loop-ty
 invariant-loop-ty l = record {

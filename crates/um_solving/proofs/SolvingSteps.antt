@@ -13,10 +13,10 @@ use Rattle.um_elim.proofs.Slots.{length-rigid, rigid-own}
 use Rattle.um_equal_types.specs.declared.row.Row.{Row}
 use Rattle.um_rows.specs.FirstUnsolvable.{Solving, unsolved, out_of_range, after_row, solve, rows_up_to}
 use Rattle.um_rows.specs.Judgement.{by_slots, by_solving, by_rows}
-use Rattle.um_infer.specs.declared.refusal.Refusal.{Refusal}
-use Rattle.um_infer.specs.declared.solving.SolveStop.{SolveStop}
-use Rattle.um_infer.specs.declared.solving.SolveStop.TheVariants as stop
-use Rattle.um_infer.specs.Forming.{RefusesRow, RefusesRows, IsSolutionOf, IsRefusal}
+use Rattle.um_solving.specs.declared.refusal.Refusal.{Refusal}
+use Rattle.um_solving.specs.declared.solving.SolveStop.{SolveStop}
+use Rattle.um_solving.specs.declared.solving.SolveStop.TheVariants as stop
+use Rattle.um_solving.specs.Solving.{RefusesRow, RefusesRows, IsSolutionOf, IsRefusal}
 
 -- the solution after the first i rows
 pub record IsSolvedUpTo (slots : ℕ) (start : List PowerMap) (rows : List Row) (i : ℕ) (solution : Solution) : Type 0 where
