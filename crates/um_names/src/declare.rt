@@ -1,14 +1,13 @@
 //! Declarations, one at a time.
 
 ghost use Rattle.std.specs.Prelude.{◌≡◌, [], false, Ok, IfOk, IfErr, OnOk, map};
-ghost use Rattle.um_tree.specs.ProgramTree.{record_tree, function_tree};
 ghost use Rattle.um_tree.specs.RawTree.{var_syntax, field_decl_syntax, whole_function_syntax, decl_syntax, base_syntax};
-ghost use Rattle.um_tree.specs.RawTree.{short_syntax, unit_syntax, expr_syntax};
-ghost use Rattle.um_measures.specs.Known.{is_taken};
+ghost use Rattle.um_tree.specs.RawTree.{short_syntax, record_decl_syntax, function_syntax, unit_syntax, expr_syntax};
+ghost use Rattle.um_measures.specs.Known.{is_taken, is_among, function_names};
 ghost use Rattle.um_measures.specs.Variables.{expr_variables, named_variables};
 ghost use Rattle.um_names.specs.Parts.{itself};
-ghost use Rattle.um_names.specs.Resolution.{resolved_record_decl, resolved_function, resolved_decl};
-ghost use Rattle.um_names.specs.Bodies.{with_body};
+ghost use Rattle.um_names.specs.Resolution.{resolved_function, resolved_decl};
+ghost use Rattle.um_names.specs.Bodies.{with_body, with_whole};
 ghost use Rattle.um_measures.specs.Stops.{IsFirst};
 ghost use Rattle.um_names.specs.Tables.{AreTables, known_of, own_callable};
 
@@ -40,32 +39,34 @@ fn is_taken(tables: &Tables, name: &[u8]) -> bool
     tables.measures.has(name) || tables.record_names.has(name)
 }
 
-/// A record, which isn't known in its own fields.
-fn record_decl(
+/// Declares a record, which isn't known in its own fields.
+fn declare_record(
     alloc: Global,
-    tables: &Tables,
+    tables: &mut Tables,
     at: u32,
     name: &Name,
     vars: &[RawVar],
     fields: &[RawFieldDecl],
-) -> Result<Record, NameStop>
-    requires { AreTables tables.now }
-    ensures exact { IfOk result (λ d. resolved_record_decl (known_of tables.now) at name.now (map var_syntax vars.now)
-        (map field_decl_syntax fields.now) ≡ Ok (record_tree d)) }
-    ensures faults { IfErr result (IsFirst (resolved_record_decl (known_of tables.now) at name.now
-        (map var_syntax vars.now) (map field_decl_syntax fields.now))) }
+) -> Result<(), NameStop>
+    requires { AreTables tables.old }
+    ensures tables { OnOk result (AreTables tables.new) }
+    ensures exact { OnOk result (resolved_decl (known_of tables.old) (record_decl_syntax at name.now
+        (map var_syntax vars.now) (map field_decl_syntax fields.now)) ≡ Ok (known_of tables.new)) }
+    ensures faults { IfErr result (IsFirst (resolved_decl (known_of tables.old) (record_decl_syntax at name.now
+        (map var_syntax vars.now) (map field_decl_syntax fields.now)))) }
 {
     if is_taken(tables, name.as_slice()) {
         return Err(NameStop::Twice { at });
     }
     let variables = unit_parameters(alloc, parameters_digest(vars), vars)?;
     let items = field_decls(alloc, tables, &variables, fields)?;
-    Ok(Record {
+    let record = Record {
         name: copied(alloc, name)?,
         at,
         units: variables.count(),
         fields: FieldDecls { items },
-    })
+    };
+    Ok(add_record(alloc, tables, record)?)
 }
 
 /// The function itself, where it may be called in its body.
@@ -115,6 +116,8 @@ fn head_of(alloc: Global, tables: &Tables, raw: &RawFunction) -> Result<Head, Na
     requires { AreTables tables.now }
     ensures exact { IfOk result (λ h. resolved_function (known_of tables.now) (whole_function_syntax raw.now)
         ≡ with_body tables.now (whole_function_syntax raw.now) h) }
+    ensures new { IfOk result (λ h.
+        is_among (function_names (known_of tables.now).program.functions) raw.now.name ≡ false) }
     ensures faults { IfErr result (IsFirst (resolved_function (known_of tables.now) (whole_function_syntax raw.now))) }
 {
     if tables.function_names.has(raw.name.as_slice()) {
@@ -138,12 +141,14 @@ fn head_of(alloc: Global, tables: &Tables, raw: &RawFunction) -> Result<Head, Na
     })
 }
 
-/// A function: its name, its unit parameters, its parameters, its result, its body.
-fn function(alloc: Global, tables: &Tables, raw: &RawFunction) -> Result<Function, NameStop>
-    requires { AreTables tables.now }
-    ensures exact { IfOk result (λ f. resolved_function (known_of tables.now) (whole_function_syntax raw.now)
-        ≡ Ok (function_tree f)) }
-    ensures faults { IfErr result (IsFirst (resolved_function (known_of tables.now) (whole_function_syntax raw.now))) }
+/// Declares a function: its name, its unit parameters, its parameters, its result, its body.
+fn declare_function(alloc: Global, tables: &mut Tables, raw: &RawFunction) -> Result<(), NameStop>
+    requires { AreTables tables.old }
+    ensures tables { OnOk result (AreTables tables.new) }
+    ensures exact { OnOk result (resolved_decl (known_of tables.old) (function_syntax (whole_function_syntax raw.now))
+        ≡ Ok (known_of tables.new)) }
+    ensures faults { IfErr result (IsFirst (resolved_decl (known_of tables.old)
+        (function_syntax (whole_function_syntax raw.now)))) }
 {
     let Head {
         units,
@@ -159,7 +164,7 @@ fn function(alloc: Global, tables: &Tables, raw: &RawFunction) -> Result<Functio
         body: &known,
     };
     let body = expr(&lookup, &mut scope, &raw.body)?;
-    Ok(Function {
+    let function = Function {
         name: copied(alloc, &raw.name)?,
         at: raw.at,
         recursive: raw.recursive,
@@ -168,18 +173,25 @@ fn function(alloc: Global, tables: &Tables, raw: &RawFunction) -> Result<Functio
         named,
         result,
         body,
-    })
+    };
+    Ok(add_function(alloc, tables, function)?)
 }
 
 /// The same of a function that is handed over. Its body is let go while it is resolved.
-fn last_function(alloc: Global, tables: &Tables, raw: RawFunction) -> Result<Function, NameStop>
-    requires { AreTables tables.now }
-    ensures exact { IfOk result (λ f. resolved_function (known_of tables.now) (whole_function_syntax raw)
-        ≡ Ok (function_tree f)) }
-    ensures faults { IfErr result (IsFirst (resolved_function (known_of tables.now) (whole_function_syntax raw))) }
+fn declare_last_function(
+    alloc: Global,
+    tables: &mut Tables,
+    raw: RawFunction,
+) -> Result<(), NameStop>
+    requires { AreTables tables.old }
+    ensures tables { OnOk result (AreTables tables.new) }
+    ensures exact { OnOk result (resolved_decl (known_of tables.old) (function_syntax (whole_function_syntax raw))
+        ≡ Ok (known_of tables.new)) }
+    ensures faults { IfErr result (IsFirst (resolved_decl (known_of tables.old)
+        (function_syntax (whole_function_syntax raw)))) }
 {
     match head_of(alloc, tables, &raw) {
-        Ok(head) => whole_function(alloc, tables, head, raw),
+        Ok(head) => declare_whole(alloc, tables, head, raw),
         Err(stop) => {
             drop(raw);
             Err(stop)
@@ -187,16 +199,18 @@ fn last_function(alloc: Global, tables: &Tables, raw: RawFunction) -> Result<Fun
     }
 }
 
-/// The function of a text whose head is resolved.
-fn whole_function(
+/// Declares the function of a text whose head is resolved.
+fn declare_whole(
     alloc: Global,
-    tables: &Tables,
+    tables: &mut Tables,
     head: Head,
     raw: RawFunction,
-) -> Result<Function, NameStop>
-    requires { AreTables tables.now }
-    ensures exact { IfOk result (λ f. with_body tables.now (whole_function_syntax raw) head ≡ Ok (function_tree f)) }
-    ensures faults { IfErr result (IsFirst (with_body tables.now (whole_function_syntax raw) head)) }
+) -> Result<(), NameStop>
+    requires tables { AreTables tables.old }
+    requires new { is_among (function_names (known_of tables.old).program.functions) raw.name ≡ false }
+    ensures tables { OnOk result (AreTables tables.new) }
+    ensures exact { OnOk result (with_whole tables.old (whole_function_syntax raw) head ≡ Ok (known_of tables.new)) }
+    ensures faults { IfErr result (IsFirst (with_whole tables.old (whole_function_syntax raw) head)) }
 {
     let RawFunction {
         at,
@@ -224,7 +238,7 @@ fn whole_function(
         body: &known,
     };
     let body = body(&lookup, &mut scope, text)?;
-    Ok(Function {
+    let function = Function {
         name,
         at,
         recursive,
@@ -233,7 +247,8 @@ fn whole_function(
         named,
         result,
         body,
-    })
+    };
+    Ok(add_function(alloc, tables, function)?)
 }
 
 /// Declares a base unit.
@@ -273,7 +288,6 @@ fn declare_short(
 }
 
 /// Takes a declaration into the tables.
-#[tactic(auto, using(crate::proofs::Taken::not_record))]
 pub fn declare(alloc: Global, tables: &mut Tables, decl: &RawDecl) -> Result<(), NameStop>
     requires { AreTables tables.old }
     ensures tables { OnOk result (AreTables tables.new) }
@@ -285,13 +299,9 @@ pub fn declare(alloc: Global, tables: &mut Tables, decl: &RawDecl) -> Result<(),
         RawDecl::Base(at, name) => declare_base(alloc, tables, *at, name),
         RawDecl::Short(at, name, unit) => declare_short(alloc, tables, *at, name, unit),
         RawDecl::Record(at, name, vars, fields) => {
-            let record = record_decl(alloc, tables, *at, name, &vars.items, &fields.items)?;
-            Ok(add_record(alloc, tables, record)?)
+            declare_record(alloc, tables, *at, name, &vars.items, &fields.items)
         }
-        RawDecl::Function(raw) => {
-            let function = function(alloc, tables, raw)?;
-            Ok(add_function(alloc, tables, function)?)
-        }
+        RawDecl::Function(raw) => declare_function(alloc, tables, raw),
     }
 }
 
@@ -303,10 +313,7 @@ pub fn declare_last(alloc: Global, tables: &mut Tables, decl: RawDecl) -> Result
     ensures faults { IfErr result (IsFirst (resolved_decl (known_of tables.old) (decl_syntax decl))) }
 {
     match decl {
-        RawDecl::Function(raw) => {
-            let function = last_function(alloc, tables, raw)?;
-            Ok(add_function(alloc, tables, function)?)
-        }
+        RawDecl::Function(raw) => declare_last_function(alloc, tables, raw),
         decl => {
             let declared = declare(alloc, tables, &decl);
             drop(decl);
