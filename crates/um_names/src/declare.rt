@@ -19,7 +19,7 @@ use crate::fields::field_decls;
 use crate::known::Tables;
 use crate::lookup::Lookup;
 use crate::node::Body;
-use crate::parts::{result_note, unit_parameters};
+use crate::parts::{add_unit_parameters, result_note};
 use crate::records::add_record;
 use crate::signature::{Parameters, params};
 use std::alloc::{AllocError, Global};
@@ -58,7 +58,8 @@ fn declare_record(
     if is_taken(tables, name.as_slice()) {
         return Err(NameStop::Twice { at });
     }
-    let variables = unit_parameters(alloc, parameters_digest(vars), vars)?;
+    let mut variables = NameTable::with_digest(alloc, parameters_digest(vars));
+    add_unit_parameters(alloc, &mut variables, vars)?;
     let items = field_decls(alloc, tables, &variables, fields)?;
     let record = Record {
         name: copied(alloc, name)?,
@@ -124,7 +125,8 @@ fn head_of(alloc: Global, tables: &Tables, raw: &RawFunction) -> Result<Head, Na
         return Err(NameStop::Twice { at: raw.at });
     }
     let names = function_names(raw);
-    let unit_params = unit_parameters(alloc, names.digest, &raw.units.items)?;
+    let mut unit_params = NameTable::with_digest(alloc, names.digest);
+    add_unit_parameters(alloc, &mut unit_params, &raw.units.items)?;
     let units = unit_params.count();
     let variables = variables_of(alloc, unit_params, raw, names.in_body)?;
     let Parameters { notes, scope } = params(alloc, tables, &variables, &raw.params.items)?;

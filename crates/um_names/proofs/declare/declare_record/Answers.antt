@@ -3,7 +3,7 @@ use Rattle.um_tree.specs.ProgramTree.{RecordTree, field_tree}
 use Rattle.um_tree.specs.RawTree.{var_syntax, field_decl_syntax}
 use Rattle.um_measures.specs.Faults.{Found, and_then}
 use Rattle.um_measures.specs.Known.{is_taken, is_among, record_names}
-use Rattle.um_names.specs.Resolution.{with_record}
+use Rattle.um_names.specs.Resolution.{resolved_parameters, with_record}
 use Rattle.um_names.specs.Tables.{known_of}
 use Rattle.um_names.proofs.Taken.{not_record}
 use Rattle.um_names.proofs.Wholes.{record_is}
@@ -21,7 +21,9 @@ returns-clause-exact c =
     let a = c.args in
     let k = known_of a.tables.now in
     let new : is_taken k a.name.now ≡ false = sym (c.is_taken.ensures ∙ ap (is_taken k) c.as_slice.ensures) ∙ c.if-is_taken.false in
+    let us = c.add_unit_parameters.new.names in
+    let units = subst (λ (ns : List (List ℕ)). resolved_parameters ns (map var_syntax a.vars.now) ≡ Ok us) c.with_digest-variables.ensures c.in_ok-add_unit_parameters.ensures.exact in
     ap (λ (r : Found RecordTree). and_then r (λ d. Ok (with_record k d)))
-    (record_is k a.at a.name.now (map var_syntax a.vars.now) (map field_decl_syntax a.fields.now) c.in_ok-copied.field-0 c.count.result c.in_ok-variables.variables (map field_tree c.in_ok-items.items.items)
-    c.in_ok-copied.ensures c.count.ensures new c.in_ok-variables.ensures.exact c.in_ok-items.ensures.exact)
+    (record_is k a.at a.name.now (map var_syntax a.vars.now) (map field_decl_syntax a.fields.now) c.in_ok-copied.field-0 c.count.result us (map field_tree c.in_ok-items.items.items)
+    c.in_ok-copied.ensures c.count.ensures new units c.in_ok-items.ensures.exact)
     ∙ ap Ok (sym c.in_ok-add_record.ensures.known)

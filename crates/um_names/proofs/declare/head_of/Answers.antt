@@ -18,8 +18,9 @@ pub returns-clause-exact : goal.returns-clause-exact
 returns-clause-exact c =
     let k = known_of c.args.tables.now in
     let f = whole_function_syntax c.args.raw.now in
-    let us = c.in_ok-unit_params.unit_params in
-    let units = subst (λ (vs : List RawVar). resolved_parameters [] (map var_syntax vs) ≡ Ok us) c.deref.ensures.value c.in_ok-unit_params.ensures.exact in
+    let us = c.add_unit_parameters.new.names in
+    let added = subst (λ (ns : List (List ℕ)). resolved_parameters ns (map var_syntax c.deref.result.now) ≡ Ok us) c.with_digest-unit_params.ensures c.in_ok-add_unit_parameters.ensures.exact in
+    let units = subst (λ (vs : List RawVar). resolved_parameters [] (map var_syntax vs) ≡ Ok us) c.deref.ensures.value added in
     let params = subst (λ (ps : List RawParam). resolved_params k c.in_ok-variables.variables [] (map param_syntax ps) ≡ Ok (map note_tree c.in_ok-notes.field-0.notes.items)) c.deref-2.ensures.value c.in_ok-notes.ensures.exact in
     let scope : c.in_ok-notes.field-0.scope ≡ scope_of f = c.in_ok-notes.ensures.scope ∙ ap (λ (ps : List RawParam). map (λ q. q.binder.name) (map param_syntax ps)) c.deref-2.ensures.value in
     head_is k f c.count-units.result c.count-named.result us c.in_ok-variables.variables (map note_tree c.in_ok-notes.field-0.notes.items) (result_tree c.in_ok-result.result) (own_callable c.in_ok-own.own) c.in_ok-notes.field-0.scope
