@@ -152,28 +152,21 @@ fn declare_function(alloc: Global, tables: &mut Tables, raw: &RawFunction) -> Re
     ensures faults { IfErr result (IsFirst (resolved_decl (known_of tables.old)
         (function_syntax (whole_function_syntax raw.now)))) }
 {
-    let Head {
-        units,
-        params,
-        named,
-        result,
-        mut scope,
-        known,
-    } = head_of(alloc, tables, raw)?;
+    let mut head = head_of(alloc, tables, raw)?;
     let lookup = Lookup {
         alloc,
         tables,
-        body: &known,
+        body: &head.known,
     };
-    let body = expr(&lookup, &mut scope, &raw.body)?;
+    let body = expr(&lookup, &mut head.scope, &raw.body)?;
     let function = Function {
         name: copied(alloc, &raw.name)?,
         at: raw.at,
         recursive: raw.recursive,
-        units,
-        params: Notes { items: params },
-        named,
-        result,
+        units: head.units,
+        params: Notes { items: head.params },
+        named: head.named,
+        result: head.result,
         body,
     };
     Ok(add_function(alloc, tables, function)?)
@@ -205,7 +198,7 @@ fn declare_last_function(
 fn declare_whole(
     alloc: Global,
     tables: &mut Tables,
-    head: Head,
+    mut head: Head,
     raw: RawFunction,
 ) -> Result<(), NameStop>
     requires tables { AreTables tables.old }
@@ -226,28 +219,20 @@ fn declare_whole(
     drop(units);
     drop(params);
     drop(result);
-    let Head {
-        units,
-        params,
-        named,
-        result,
-        mut scope,
-        known,
-    } = head;
     let lookup = Lookup {
         alloc,
         tables,
-        body: &known,
+        body: &head.known,
     };
-    let body = body(&lookup, &mut scope, text)?;
+    let body = body(&lookup, &mut head.scope, text)?;
     let function = Function {
         name,
         at,
         recursive,
-        units,
-        params: Notes { items: params },
-        named,
-        result,
+        units: head.units,
+        params: Notes { items: head.params },
+        named: head.named,
+        result: head.result,
         body,
     };
     Ok(add_function(alloc, tables, function)?)
@@ -315,11 +300,18 @@ pub fn declare_last(alloc: Global, tables: &mut Tables, decl: RawDecl) -> Result
     ensures faults { IfErr result (IsFirst (resolved_decl (known_of tables.old) (decl_syntax decl))) }
 {
     match decl {
-        RawDecl::Function(raw) => declare_last_function(alloc, tables, raw),
-        decl => {
-            let declared = declare(alloc, tables, &decl);
-            drop(decl);
+        RawDecl::Base(at, name) => declare_base(alloc, tables, at, &name),
+        RawDecl::Short(at, name, unit) => {
+            let declared = declare_short(alloc, tables, at, &name, &unit);
+            drop(unit);
             declared
         }
+        RawDecl::Record(at, name, vars, fields) => {
+            let declared = declare_record(alloc, tables, at, &name, &vars.items, &fields.items);
+            drop(vars);
+            drop(fields);
+            declared
+        }
+        RawDecl::Function(raw) => declare_last_function(alloc, tables, raw),
     }
 }
