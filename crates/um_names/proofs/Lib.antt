@@ -13,7 +13,6 @@ pub mod FieldNumbers
 pub mod Taken
 pub mod Wholes
 pub mod DeclLoops
-mod NewNames
 pub mod FormedUnits
 pub mod FormedTypes
 pub mod FormedExprs
