@@ -4,6 +4,7 @@ pub mod CallableNames
 pub mod DistinctNames
 pub mod FieldNames
 pub mod BodyLists
+mod JointNames
 pub mod Declarations
 pub mod Added
 pub mod Params
