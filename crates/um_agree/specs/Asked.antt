@@ -85,6 +85,15 @@ sides Sub = Some rule.Difference
 sides Mul = None
 sides Div = None
 
+-- the rule of a node whose last two parts must have the same type
+abbrev pub rule_of : ExprTree → Option Rule
+rule_of (arith at op a b) = sides op
+rule_of (compare at sign a b) = Some rule.Comparison
+rule_of (if at c a b) = Some rule.Branches
+rule_of (split at l a b) = Some rule.Arms
+rule_of (cons at a b) = Some rule.Head
+rule_of e = None
+
 abbrev mutual
   pub asked_in : ℕ → ExprTree → List Asked
   asked_in c (truth at b) = []

@@ -2,7 +2,7 @@
 
 ghost use Rattle.std.specs.Prelude.{◌≡◌, ◌++◌, ◌+◌, IfOk, OnOk, map};
 ghost use Rattle.um_tree.specs.ExprTree.{expr_tree, in_order};
-ghost use Rattle.um_agree.specs.Asked.{sides, count, parts_count, all_count, ends_of};
+ghost use Rattle.um_agree.specs.Asked.{rule_of, count, parts_count, all_count, ends_of};
 ghost use Rattle.um_agree.specs.Asked.{asked_in, pair_asked, each_asked, all_asked};
 
 use crate::found::{Each, Found};
@@ -10,14 +10,33 @@ use crate::rule::Rule;
 use std::alloc::{AllocError, Global};
 use um_tree::{Arith, Expr, Node};
 
-/// The rule of an operation whose two sides must have the same type.
-fn rule_of(op: Arith) -> Option<Rule>
-    ensures { result ≡ sides op }
+/// The rule of a node whose last two parts must have the same type.
+fn rule_of(e: &Expr) -> Option<Rule>
+    ensures { result ≡ rule_of (expr_tree e.now) }
 {
-    match op {
-        Arith::Add => Some(Rule::Sum),
-        Arith::Sub => Some(Rule::Difference),
-        Arith::Mul | Arith::Div => None,
+    match &e.node {
+        Node::Arith(Arith::Add, _, _) => Some(Rule::Sum),
+        Node::Arith(Arith::Sub, _, _) => Some(Rule::Difference),
+        Node::Compare(_, _, _) => Some(Rule::Comparison),
+        Node::If(_, _, _) => Some(Rule::Branches),
+        Node::Match(_, _, _) => Some(Rule::Arms),
+        Node::Cons(_, _) => Some(Rule::Head),
+        Node::Arith(Arith::Mul, _, _)
+        | Node::Arith(Arith::Div, _, _)
+        | Node::Bool(_)
+        | Node::Num(_, _)
+        | Node::Local(_)
+        | Node::Nil(_)
+        | Node::Neg(_)
+        | Node::Not(_)
+        | Node::Pow(_, _)
+        | Node::Field(_, _, _)
+        | Node::And(_, _)
+        | Node::Or(_, _)
+        | Node::Let(_, _)
+        | Node::Call(_, _)
+        | Node::List(_)
+        | Node::Rec(_, _) => None,
     }
 }
 
@@ -43,23 +62,18 @@ fn ask_parts(alloc: Global, e: &Expr, found: &mut Found) -> Result<(), AllocErro
     let at = e.at;
     match &e.node {
         Node::Bool(_) | Node::Num(_, _) | Node::Local(_) | Node::Nil(_) => Ok(()),
-        Node::Neg(a) => ask_one(alloc, a, found),
-        Node::Not(a) => ask_one(alloc, a, found),
-        Node::Pow(a, _) => ask_one(alloc, a, found),
-        Node::Field(_, _, a) => ask_one(alloc, a, found),
-        Node::Arith(op, a, b) => ask_pair(alloc, rule_of(*op), at, a, b, found),
-        Node::Compare(_, a, b) => ask_pair(alloc, Some(Rule::Comparison), at, a, b, found),
-        Node::And(a, b) => ask_pair(alloc, None, at, a, b, found),
-        Node::Or(a, b) => ask_pair(alloc, None, at, a, b, found),
-        Node::Let(a, b) => ask_pair(alloc, None, at, a, b, found),
-        Node::Cons(a, b) => ask_pair(alloc, Some(Rule::Head), at, a, b, found),
-        Node::If(c, a, b) => {
+        Node::Neg(a) | Node::Not(a) | Node::Pow(a, _) | Node::Field(_, _, a) => ask_one(
+            alloc, a, found,
+        ),
+        Node::Arith(_, a, b)
+        | Node::Compare(_, a, b)
+        | Node::And(a, b)
+        | Node::Or(a, b)
+        | Node::Let(a, b)
+        | Node::Cons(a, b) => ask_pair(alloc, rule_of(e), at, a, b, found),
+        Node::If(c, a, b) | Node::Match(c, a, b) => {
             ask(alloc, c, found)?;
-            ask_pair(alloc, Some(Rule::Branches), at, a, b, found)
-        }
-        Node::Match(l, a, b) => {
-            ask(alloc, l, found)?;
-            ask_pair(alloc, Some(Rule::Arms), at, a, b, found)
+            ask_pair(alloc, rule_of(e), at, a, b, found)
         }
         Node::Call(j, es) => ask_each(alloc, Each::Argument(*j), at, &es.items, found),
         Node::List(es) => ask_each(alloc, Each::Item, at, &es.items, found),

@@ -8,7 +8,7 @@ use std::alloc::{AllocError, Global};
 use std::str;
 use um_front::{Answer, Text, TextParts, read_tokens};
 use um_reports::{Reply, Status, reply_to_text};
-use um_syntax::{Token, TokenBlocks};
+use um_syntax::TokenBlocks;
 use um_tidy::tidy_text;
 
 /// The answer to `tidy` about a text.
@@ -32,9 +32,8 @@ fn answer_tokens(alloc: Global, bytes: Vec<u8>, tokens: TokenBlocks) -> Answer
     requires short { length bytes.items ≤ 1048576 }
     ensures { IfOk result (λ reply. TidyAnswer bytes.items reply.text.items reply.status) }
 {
-    let tokens = tokens.into_tokens()?;
-    let text = tidied(alloc, &bytes, tokens.as_slice());
-    match read_tokens(alloc, bytes, TokenBlocks::from_tokens(alloc, tokens)) {
+    let text = tidied(alloc, &bytes, &tokens);
+    match read_tokens(alloc, bytes, tokens) {
         Ok(read) => {
             read.discard();
             Ok(Reply {
@@ -50,7 +49,7 @@ fn answer_tokens(alloc: Global, bytes: Vec<u8>, tokens: TokenBlocks) -> Answer
 }
 
 /// The bytes laid out anew.
-fn tidied(alloc: Global, bytes: &[u8], tokens: &[Token]) -> Result<Vec<u8>, AllocError>
+fn tidied(alloc: Global, bytes: &[u8], tokens: &TokenBlocks) -> Result<Vec<u8>, AllocError>
     requires tokens { IsTextAnswer bytes.now (Ok tokens.now) }
     requires short { length bytes.now ≤ 1048576 }
     ensures { IfOk result (λ text. text.items ≡ tidied bytes.now tokens.now) }

@@ -10,11 +10,12 @@ use Rattle.um_slots.specs.CallFunction.{call_function}
 use Rattle.um_rows.proofs.CallLaws.{judged_calls_have_their_type, judged_untyped_calls_have_none}
 use Rattle.um_rows.proofs.GeneralLaws.{general_without_parameters}
 use Rattle.um_infer.specs.Inference.{all_schemes, infer}
-use Rattle.um_infer.specs.declared.refusal.Refusal.{Refusal}
-use Rattle.um_infer.specs.declared.refusal.Refusal.TheVariants as refusal
+use Rattle.um_solving.specs.declared.refusal.Refusal.{Refusal}
+use Rattle.um_solving.specs.declared.refusal.Refusal.TheVariants as refusal
 use Rattle.um_infer.specs.Answers.{CallAnswers, SaysOfCall}
 use Rattle.um_infer.specs.CallJudgement.{judge_call}
-use Rattle.um_infer.specs.Forming.{IsRefusal, IsAnswer}
+use Rattle.um_infer.specs.Forming.{IsAnswer}
+use Rattle.um_solving.specs.Solving.{IsRefusal}
 use Rattle.um_infer.specs.Refusals.{call_stop_of}
 use Rattle.um_infer.specs.Laws.{JudgedCallTypes, JudgedCallRefusals}
 use Rattle.um_infer.proofs.PrincipalSchemes.{have_schemes}

@@ -20,9 +20,9 @@ use Rattle.um_slots.specs.Keys.{text_keys}
 use Rattle.um_rows.specs.Judgement.{Judgement, too_many_slots, by_rows, by_range, judge}
 use Rattle.um_rows.specs.Answers.{rows_signature, AreEquations, StopsFor, HaveVariablesBelow}
 use Rattle.um_slots.proofs.ParameterSlots.{parameters_have_slots}
-use Rattle.um_infer.specs.declared.refusal.Refusal.{Refusal}
+use Rattle.um_solving.specs.declared.refusal.Refusal.{Refusal}
 use Rattle.um_infer.specs.Forming.{IsAnswer}
-use Rattle.um_infer.specs.Refusals.{refusal_of}
+use Rattle.um_solving.specs.Refusals.{refusal_of}
 use Rattle.um_infer.proofs.ManySlots.{many_slots_are_counted}
 
 all_before_map : {X Y : Type 0} (P : X → Type 0) (f : Y → X) (ys : List Y) → All P (map f ys) → All (λ y. P (f y)) ys

@@ -5,7 +5,6 @@ mod ManySlots
 pub mod InferenceLaws
 pub mod CallTypes
 pub mod AnswerLaws
-mod SolvingSteps
 pub mod FormingSteps
 pub mod GeneralSteps
 mod AbsentVariables

@@ -5,8 +5,8 @@ use Rattle.um_tree.specs.ProgramTree.{FunctionTree, ProgramTree, SchemeTree}
 use Rattle.um_tree.specs.Formed.{IsFormed}
 use Rattle.um_rows.specs.Solutions.{HaveSchemes}
 use Rattle.um_rows.specs.Judgement.{Judgement, has_scheme, too_many_slots, passes_range, has_no_typing, not_general, judge}
-use Rattle.um_infer.specs.declared.refusal.Refusal.{Refusal}
-use Rattle.um_infer.specs.declared.refusal.Refusal.TheVariants as refusal
+use Rattle.um_solving.specs.declared.refusal.Refusal.{Refusal}
+use Rattle.um_solving.specs.declared.refusal.Refusal.TheVariants as refusal
 use Rattle.um_infer.specs.Inference.{all_schemes, infer_first}
 use Rattle.um_infer.specs.Schemes.{IsJudged}
 use Rattle.um_infer.specs.Answers.{IsFirstInferred}

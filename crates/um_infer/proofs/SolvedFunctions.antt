@@ -10,8 +10,8 @@ use Rattle.um_rows.specs.Answers.{AreEquations, AreRowsOf}
 use Rattle.um_rows.specs.NodeTypes.{AreNodesOf, typed_nodes}
 use Rattle.um_infer.specs.declared.solved.SolvedFunction.{SolvedFunction}
 use Rattle.um_infer.specs.declared.solved.SolvedScheme.{SolvedScheme}
-use Rattle.um_infer.specs.declared.refusal.Refusal.{Refusal}
-use Rattle.um_infer.specs.Forming.{IsSolutionOf}
+use Rattle.um_solving.specs.declared.refusal.Refusal.{Refusal}
+use Rattle.um_solving.specs.Solving.{IsSolutionOf}
 use Rattle.um_infer.specs.SolvedPrograms.{IsSolvedAt, AreSolvedFunctions, IsSolvedAnswer, IsSolvedBy}
 use Rattle.um_infer.proofs.Judged.{solved_is_judged}
 use Rattle.um_infer.proofs.SchemeLists.{item_or_last}

@@ -1,19 +1,12 @@
--- What a refusal becomes: that of the rows one of a function or a call, and this one of the program or of the call.
+-- What the refusal of a function or a call becomes: one of the program or of the call.
 -- Source: this project's own.
 use Rattle.std.specs.Prelude.{ℕ}
-use Rattle.um_equal_types.specs.declared.row.RowStop.{RowStop}
-use Rattle.um_equal_types.specs.declared.row.RowStop.TheVariants as rows
-use Rattle.um_infer.specs.declared.refusal.Refusal.{Refusal}
-use Rattle.um_infer.specs.declared.refusal.Refusal.TheVariants as refusal
+use Rattle.um_solving.specs.declared.refusal.Refusal.{Refusal}
+use Rattle.um_solving.specs.declared.refusal.Refusal.TheVariants as refusal
 use Rattle.um_infer.specs.declared.stop.InferStop.{InferStop}
 use Rattle.um_infer.specs.declared.stop.InferStop.TheVariants as program
 use Rattle.um_infer.specs.declared.stop.CallStop.{CallStop}
 use Rattle.um_infer.specs.declared.stop.CallStop.TheVariants as call
-
-abbrev pub refusal_of : RowStop → Refusal
-refusal_of rows.Slots = refusal.Slots
-refusal_of (rows.Range at) = refusal.PowerRange at
-refusal_of rows.NoMemory = refusal.NoMemory
 
 abbrev pub stop_of : ℕ → Refusal → InferStop
 stop_of i (refusal.Units at) = program.Units i at

@@ -7,10 +7,10 @@ use Rattle.um_rows.specs.declared.nodes.TypedRows.{TypedRows}
 use Rattle.um_rows.specs.Answers.{AreEquations, rows_signature}
 use Rattle.um_rows.specs.Judgement.{by_rows, has_scheme, judge}
 use Rattle.um_rows.specs.NodeTypes.{function_nodes, typed_nodes}
-use Rattle.um_infer.specs.declared.refusal.Refusal.{Refusal}
+use Rattle.um_solving.specs.declared.refusal.Refusal.{Refusal}
 use Rattle.um_infer.specs.declared.solved.SolvedFunction.{SolvedFunction}
 use Rattle.um_infer.specs.declared.solved.SolvedScheme.{SolvedScheme}
-use Rattle.um_infer.specs.Forming.{IsRefusal, IsSolutionOf}
+use Rattle.um_solving.specs.Solving.{IsRefusal, IsSolutionOf}
 
 -- function i of the program: its equations, the nodes of its body over the same slots, and the solution of all rows,
 -- with each unit parameter as a unit of its own

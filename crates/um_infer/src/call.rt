@@ -12,10 +12,10 @@ ghost use Rattle.um_infer.specs.Refusals.{call_stop_of};
 use crate::CallStop;
 use crate::forming::formed_scheme;
 use crate::program::{base_count, function_count};
-use crate::refusal::Refusal;
 use std::alloc::Global;
 use um_rows::call_rows;
 use um_shape::Shaped;
+use um_solving::Refusal;
 use um_tree::{Inputs, Scheme, Schemes, Ty};
 
 /// The type of the call of function `f` with the arguments, given the schemes that `infer` answered for the program.

@@ -1,27 +1,23 @@
 //! The scheme of a function from its equations.
-ghost use Rattle.std.specs.Prelude.{◌≡◌, ◌<◌, ◌≤◌, ◌+◌, ◌^◌, All, IfOk, MatchResult, IsTrue, false, length, map};
-ghost use Rattle.std.specs.List.{list_all};
-ghost use Rattle.um_units.specs.PowerMap.{nth};
+ghost use Rattle.std.specs.Prelude.{◌≡◌, ◌<◌, ◌≤◌, ◌+◌, ◌^◌, All, IfOk, length};
 ghost use Rattle.um_units.specs.Variables.{VariablesBelow};
-ghost use Rattle.um_tree.specs.TypeTree.{type_tree, type_trees};
+ghost use Rattle.um_tree.specs.TypeTree.{type_trees};
 ghost use Rattle.um_tree.specs.ProgramTree.{scheme_tree};
-ghost use Rattle.um_tree.specs.Typing.{put};
 ghost use Rattle.um_tree.specs.Scheme.{signature_types, variables};
-ghost use Rattle.um_elim.specs.Application.{type_fits};
 ghost use Rattle.um_elim.specs.Numbering.{renumbered, variable_order};
 ghost use Rattle.um_elim.specs.Solution.{rigid_units};
 ghost use Rattle.um_equal_types.specs.declared.row.Row.{Row};
 ghost use Rattle.um_rows.specs.Answers.{rows_signature};
 ghost use Rattle.um_rows.specs.Judgement.{by_rows};
-ghost use Rattle.um_infer.specs.Forming.{IsAnswer, IsSolutionOf, RefusesUnless};
+ghost use Rattle.um_infer.specs.Forming.{IsAnswer};
+ghost use Rattle.um_solving.specs.Solving.{IsSolutionOf};
 
 use crate::general::general_types;
-use crate::refusal::Refusal;
-use crate::solving::rigid_solver;
 use std::alloc::{AllocError, Global};
-use um_elim::{ElimStop, Numbered, Solver, renumber};
+use um_elim::{Numbered, Solver, renumber};
 use um_rows::{Row, Rows};
-use um_tree::{Scheme, Ty, Types};
+use um_solving::{Refusal, rigid_solver, solved_types};
+use um_tree::{Scheme, Types};
 
 /// The formed scheme of a function of a program with so many base units: the rows are solved one by one, with each unit
 /// parameter as a unit of its own, the solution is put for the slots of the types, unit parameters become variables,
@@ -66,53 +62,6 @@ pub(crate) fn scheme_by(
     let types = solved_types(alloc, solver, rows, at)?;
     let general = general_types(alloc, bases, parameters, rows.slots, types)?;
     Ok(numbered_scheme(alloc, general)?)
-}
-
-/// The types with the solution put for their slots, the result's last.
-pub(crate) fn solved_types(
-    alloc: Global,
-    solver: &Solver,
-    rows: &Rows,
-    at: u32,
-) -> Result<Types, Refusal>
-    requires { solver.now.spent ≡ false }
-    ensures solved { IfOk result (λ types. type_trees types
-        ≡ map (put (nth solver.now.units)) (signature_types (rows_signature rows.now))) }
-    ensures range { MatchResult result (λ types. IsTrue (list_all type_fits (type_trees types)))
-        (RefusesUnless at (list_all type_fits (map (put (nth solver.now.units))
-        (signature_types (rows_signature rows.now))))) }
-{
-    let mut items = solved_params(alloc, solver, &rows.params.items, at)?;
-    items.push(solved_type(alloc, solver, &rows.result, at)?)?;
-    Ok(Types { items })
-}
-
-fn solved_params(alloc: Global, solver: &Solver, params: &[Ty], at: u32) -> Result<Vec<Ty>, Refusal>
-    requires { solver.now.spent ≡ false }
-    ensures solved { IfOk result (λ items. map type_tree items.items
-        ≡ map (put (nth solver.now.units)) (map type_tree params.now)) }
-    ensures range { MatchResult result (λ items. IsTrue (list_all type_fits (map type_tree items.items)))
-        (RefusesUnless at (list_all type_fits (map (put (nth solver.now.units)) (map type_tree params.now)))) }
-{
-    let mut items = Vec::new(alloc);
-    for ty in params {
-        items.push(solved_type(alloc, solver, ty, at)?)?;
-    }
-    Ok(items)
-}
-
-fn solved_type(alloc: Global, solver: &Solver, ty: &Ty, at: u32) -> Result<Ty, Refusal>
-    requires { solver.now.spent ≡ false }
-    ensures solved { IfOk result (λ t. type_tree t ≡ put (nth solver.now.units) (type_tree ty.now)) }
-    ensures range { MatchResult result (λ t. IsTrue (type_fits (type_tree t)))
-        (RefusesUnless at (type_fits (put (nth solver.now.units) (type_tree ty.now)))) }
-{
-    match solver.apply(alloc, ty) {
-        Ok(solved) => Ok(solved),
-        Err(ElimStop::Range) => Err(Refusal::PowerRange { at }),
-        Err(ElimStop::NoMemory) => Err(Refusal::NoMemory),
-        Err(ElimStop::NoSolution | ElimStop::Spent) => unreachable!(),
-    }
 }
 
 /// The scheme of types whose last is the result's, with their variables numbered.

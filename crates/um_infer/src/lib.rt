@@ -15,10 +15,8 @@ mod forming;
 mod general;
 pub mod laws;
 mod program;
-mod refusal;
 mod solution;
 mod solved;
-mod solving;
 mod stop;
 
 pub use call::type_call;

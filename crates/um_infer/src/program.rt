@@ -10,10 +10,10 @@ ghost use Rattle.um_infer.specs.Refusals.{stop_of};
 
 use crate::InferStop;
 use crate::forming::formed_scheme;
-use crate::refusal::Refusal;
 use std::alloc::Global;
 use um_rows::rows;
 use um_shape::Shaped;
+use um_solving::Refusal;
 use um_tree::{Scheme, Schemes};
 
 /// The schemes of the program's functions, or the first function that has none.

@@ -8,13 +8,12 @@ ghost use Rattle.um_tree.specs.Scheme.{signature_types};
 ghost use Rattle.um_elim.specs.Solution.{rigid_units};
 ghost use Rattle.um_rows.specs.Answers.{rows_signature};
 ghost use Rattle.um_rows.specs.Judgement.{has_scheme, by_rows};
-ghost use Rattle.um_infer.specs.Forming.{IsSolutionOf, IsRefusal};
+ghost use Rattle.um_solving.specs.Solving.{IsSolutionOf, IsRefusal};
 
-use crate::forming::solved_types;
-use crate::refusal::Refusal;
 use std::alloc::{AllocError, Global};
 use um_elim::Solver;
 use um_rows::Rows;
+use um_solving::{Refusal, solved_types};
 use um_tree::Types;
 
 /// The types of the parameters and, last, the result of a function that has a scheme and these rows, with the solution

@@ -10,19 +10,18 @@ ghost use Rattle.um_rows.specs.Answers.{rows_signature};
 ghost use Rattle.um_rows.specs.Solutions.{HaveSchemes};
 ghost use Rattle.um_infer.specs.declared.stop.InferStop.TheVariants.{NoMemory};
 ghost use Rattle.um_infer.specs.Answers.{IsInferred, SaysOfTypings, scheme_trees};
-ghost use Rattle.um_infer.specs.Forming.{IsSolutionOf};
+ghost use Rattle.um_solving.specs.Solving.{IsSolutionOf};
 ghost use Rattle.um_infer.specs.Inference.{all_schemes, infer};
 ghost use Rattle.um_infer.specs.SolvedPrograms.{AreSolvedFunctions, IsSolvedAnswer, IsSolvedBy};
 
 use crate::InferStop;
 use crate::forming::scheme_by;
 use crate::program::{base_count, function_count, head_of, stop_of};
-use crate::refusal::Refusal;
-use crate::solving::rigid_solver;
 use std::alloc::Global;
 use um_elim::Solver;
 use um_rows::{Row, TypedRows, typed_rows};
 use um_shape::Shaped;
+use um_solving::{Refusal, rigid_solver};
 use um_tree::{Scheme, Schemes};
 
 /// What is known of a function before its equations: the number of base units, its number of unit parameters, and the

@@ -8,7 +8,7 @@ ghost use Rattle.um_units.specs.Variables.{VariablesBelow};
 ghost use Rattle.um_elim.specs.ElimStep.{multiply, substitute};
 ghost use Rattle.um_elim.specs.Solution.{rigid_unit};
 ghost use Rattle.um_rows.specs.Generalised.{generalised_unit as unit_in_place};
-ghost use Rattle.um_wide.specs.Room.{IsNarrow};
+ghost use Rattle.um_wide.specs.Room.{IsNarrow, IsWithin};
 ghost use Rattle.std.proofs.Common.{neg_ℤ};
 ghost use Rattle.std.specs.Int.Signed.{◌<ℤ◌};
 ghost use Rattle.um_kept.specs.Kept.{first};
@@ -98,6 +98,37 @@ pub fn multiply_all(alloc: Global, units: &mut Vec<Unit>, m: u32, w: &Unit) -> R
     Ok(())
 }
 
+/// The inverse of what the inverse substitution gives for the unit, in which the base unit of a unit parameter stands
+/// for the parameter's slot.
+fn inverse_image(
+    alloc: Global,
+    back: &[Unit],
+    head: Head,
+    unit: &Unit,
+) -> Result<WideUnit, AllocError>
+    requires below { VariablesBelow head.slots unit.now }
+    requires bases { head.bases + head.parameters < 2 ^ 32 }
+    requires slots { head.slots + head.parameters < 2 ^ 32 }
+    ensures exact { IfOk result (λ image. image ≡ inv (replace (nth back.now)
+        (unit_in_place head.bases head.parameters head.slots unit.now))) }
+    ensures room { IfOk result (IsWithin (2 ^ 126)) }
+{
+    let in_place = generalised_unit(alloc, head.bases, head.parameters, head.slots, unit)?;
+    let inverse = in_place.inv(alloc)?;
+    WideUnit::replaced(alloc, &inverse, back)
+}
+
+/// The product of a unit and such an image.
+fn times_image(alloc: Global, unit: &Unit, image: &WideUnit) -> Result<Unit, CertStop>
+    requires { IsWithin (2 ^ 126) image.now }
+    ensures { MatchResult result (λ made. made ≡ mul unit.now image.now)
+        (CarriesPower 2147483647 (mul unit.now image.now)) }
+{
+    let own = WideUnit::power(alloc, unit, 1)?;
+    let product = own.mul(alloc, image)?;
+    unit_of(alloc, &product)
+}
+
 /// What the inverse substitution gives for the step's variable, divided by what it gives for the product by which the
 /// step multiplies it. In this product the base unit of a unit parameter stands for the parameter's slot.
 pub fn divide_back(
@@ -118,12 +149,8 @@ pub fn divide_back(
         (mul (nth back.old.items step.now.variable) (inv (replace (nth back.old.items)
         (unit_in_place head.bases head.parameters head.slots step.now.by))))) }
 {
-    let by = generalised_unit(alloc, head.bases, head.parameters, head.slots, &step.by)?;
-    let inverse = by.inv(alloc)?;
-    let image = WideUnit::replaced(alloc, &inverse, back)?;
-    let own = WideUnit::power(alloc, &back[step.variable as usize], 1)?;
-    let divided = own.mul(alloc, &image)?;
-    back[step.variable as usize] = unit_of(alloc, &divided)?;
+    let image = inverse_image(alloc, back, head, &step.by)?;
+    back[step.variable as usize] = times_image(alloc, &back[step.variable as usize], &image)?;
     Ok(())
 }
 

@@ -4,6 +4,7 @@ pub mod CallableNames
 pub mod DistinctNames
 pub mod FieldNames
 pub mod BodyLists
+mod JointNames
 pub mod Declarations
 pub mod Added
 pub mod Params
@@ -13,7 +14,6 @@ pub mod FieldNumbers
 pub mod Taken
 pub mod Wholes
 pub mod DeclLoops
-mod NewNames
 pub mod FormedUnits
 pub mod FormedTypes
 pub mod FormedExprs

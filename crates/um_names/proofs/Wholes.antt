@@ -67,25 +67,20 @@ module _ (known : Known) (f : FunctionSyntax) where
   abbrev in_body : List (List ℕ) → List Callable → Scope → Found ExprTree
   in_body variables own scope = resolved_expr known variables (map callable known.program.functions ++ own) scope f.body
 
-  abbrev behind : List NoteTree → Option NoteTree → ℕ → ℕ → List (List ℕ) → List Callable → Scope → Found FunctionTree
-  behind params result units named variables own scope = and_then (in_body variables own scope) (numbered units named params result)
+  abbrev after_head : List NoteTree → Option NoteTree → ℕ → ℕ → List (List ℕ) → List Callable → Scope → Found FunctionTree
+  after_head params result units named variables own scope = and_then (in_body variables own scope) (numbered units named params result)
 
   pub head_is : (units named : ℕ) (us variables : List (List ℕ)) (params : List NoteTree) (result : Option NoteTree) (own : List Callable) (scope : Scope) → units ≡ length us → named ≡ length variables → is_among (function_names known.program.functions) f.name ≡ false
       → resolved_parameters [] f.units ≡ Ok us → variables ≡ named_variables us f → resolved_params known variables [] f.params ≡ Ok params → resolved_result known variables f.result ≡ Ok result → own ≡ itself f → scope ≡ scope_of f
-      → resolved_function known f ≡ behind params result units named variables own scope
+      → resolved_function known f ≡ after_head params result units named variables own scope
   head_is units named us variables params result own scope m u n q v p r o s =
       let names = named_variables us f in
       let p' : resolved_params known names [] f.params ≡ Ok params = subst (λ (vs : List (List ℕ)). resolved_params known vs [] f.params ≡ Ok params) v p in
       let r' : resolved_result known names f.result ≡ Ok result = subst (λ (vs : List (List ℕ)). resolved_result known vs f.result ≡ Ok result) v r in
       next its_name tt with_its_name (free (is_among (function_names known.program.functions) f.name) f.at n) ∙ next (resolved_parameters [] f.units) us with_unit_params q ∙ next (resolved_params known names [] f.params) params (with_params us) p'
       ∙ next (resolved_result known names f.result) result (with_result us params) r'
-      ∙ ap (λ (k : ℕ). behind params result k (length names) names (itself f) (scope_of f)) (sym m)
-      ∙ ap (λ (k : ℕ). behind params result units k names (itself f) (scope_of f)) (ap length (sym v) ∙ sym u)
-      ∙ ap (λ (vs : List (List ℕ)). behind params result units named vs (itself f) (scope_of f)) (sym v)
-      ∙ ap (λ (cs : List Callable). behind params result units named variables cs (scope_of f)) (sym o)
-      ∙ ap (λ (sc : Scope). behind params result units named variables own sc) (sym s)
-
-  pub body_is : (name : List ℕ) (units named : ℕ) (params : List NoteTree) (result : Option NoteTree) (found : Found ExprTree) (body : ExprTree) → name ≡ f.name → found ≡ Ok body
-      → and_then found (numbered units named params result) ≡ Ok (record { name = name; at = f.at; recursive = f.recursive; units = units; params = params; named = named; result = result; body = body })
-  body_is name units named params result found body e b =
-      next found body (numbered units named params result) b ∙ ap (λ (y : List ℕ). Ok (record { name = y; at = f.at; recursive = f.recursive; units = units; params = params; named = named; result = result; body = body })) (sym e)
+      ∙ ap (λ (k : ℕ). after_head params result k (length names) names (itself f) (scope_of f)) (sym m)
+      ∙ ap (λ (k : ℕ). after_head params result units k names (itself f) (scope_of f)) (ap length (sym v) ∙ sym u)
+      ∙ ap (λ (vs : List (List ℕ)). after_head params result units named vs (itself f) (scope_of f)) (sym v)
+      ∙ ap (λ (cs : List Callable). after_head params result units named variables cs (scope_of f)) (sym o)
+      ∙ ap (λ (sc : Scope). after_head params result units named variables own sc) (sym s)

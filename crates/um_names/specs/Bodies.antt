@@ -10,8 +10,10 @@ use Rattle.um_names.specs.declared.callable.Callable.{Callable}
 use Rattle.um_names.specs.declared.node.Body.{Body}
 use Rattle.um_names.specs.declared.declare.Head.{Head}
 use Rattle.um_measures.specs.Faults.{Found, and_then, unless_taken}
+use Rattle.um_measures.specs.Known.{Known}
 use Rattle.um_measures.specs.Scopes.{Scope, same_binding}
 use Rattle.um_names.specs.ExprNames.{resolved_expr, resolved_exprs, resolved_parts}
+use Rattle.um_names.specs.Resolution.{with_function}
 use Rattle.um_names.specs.Tables.{known_of, callables_in}
 
 abbrev pub callables_of : Tables → Body → List Callable
@@ -50,3 +52,7 @@ with_body t f h =
       result = result_tree h.result;
       body = body;
     }))
+
+-- what is known after the function that has this head
+abbrev pub with_whole : Tables → FunctionSyntax → Head → Found Known
+with_whole t f h = and_then (with_body t f h) (λ g. Ok (with_function (known_of t) g))

@@ -7,4 +7,5 @@ pub mod RecordLaws
 -- What mirrors the code: its tables, and parts as its functions speak of them.
 pub mod Tables
 pub mod Bodies
+pub mod Joints
 pub mod Parts

@@ -1,14 +1,13 @@
 //! Declarations, one at a time.
 
 ghost use Rattle.std.specs.Prelude.{◌≡◌, [], false, Ok, IfOk, IfErr, OnOk, map};
-ghost use Rattle.um_tree.specs.ProgramTree.{record_tree, function_tree};
 ghost use Rattle.um_tree.specs.RawTree.{var_syntax, field_decl_syntax, whole_function_syntax, decl_syntax, base_syntax};
-ghost use Rattle.um_tree.specs.RawTree.{short_syntax, unit_syntax, expr_syntax};
-ghost use Rattle.um_measures.specs.Known.{is_taken};
+ghost use Rattle.um_tree.specs.RawTree.{short_syntax, record_decl_syntax, function_syntax, unit_syntax, expr_syntax};
+ghost use Rattle.um_measures.specs.Known.{is_taken, is_among, function_names};
 ghost use Rattle.um_measures.specs.Variables.{expr_variables, named_variables};
 ghost use Rattle.um_names.specs.Parts.{itself};
-ghost use Rattle.um_names.specs.Resolution.{resolved_record_decl, resolved_function, resolved_decl};
-ghost use Rattle.um_names.specs.Bodies.{with_body};
+ghost use Rattle.um_names.specs.Resolution.{resolved_function, resolved_decl};
+ghost use Rattle.um_names.specs.Bodies.{with_body, with_whole};
 ghost use Rattle.um_measures.specs.Stops.{IsFirst};
 ghost use Rattle.um_names.specs.Tables.{AreTables, known_of, own_callable};
 
@@ -20,7 +19,7 @@ use crate::fields::field_decls;
 use crate::known::Tables;
 use crate::lookup::Lookup;
 use crate::node::Body;
-use crate::parts::{result_note, unit_parameters};
+use crate::parts::{add_unit_parameters, result_note};
 use crate::records::add_record;
 use crate::signature::{Parameters, params};
 use std::alloc::{AllocError, Global};
@@ -40,32 +39,35 @@ fn is_taken(tables: &Tables, name: &[u8]) -> bool
     tables.measures.has(name) || tables.record_names.has(name)
 }
 
-/// A record, which isn't known in its own fields.
-fn record_decl(
+/// Declares a record, which isn't known in its own fields.
+fn declare_record(
     alloc: Global,
-    tables: &Tables,
+    tables: &mut Tables,
     at: u32,
     name: &Name,
     vars: &[RawVar],
     fields: &[RawFieldDecl],
-) -> Result<Record, NameStop>
-    requires { AreTables tables.now }
-    ensures exact { IfOk result (λ d. resolved_record_decl (known_of tables.now) at name.now (map var_syntax vars.now)
-        (map field_decl_syntax fields.now) ≡ Ok (record_tree d)) }
-    ensures faults { IfErr result (IsFirst (resolved_record_decl (known_of tables.now) at name.now
-        (map var_syntax vars.now) (map field_decl_syntax fields.now))) }
+) -> Result<(), NameStop>
+    requires { AreTables tables.old }
+    ensures tables { OnOk result (AreTables tables.new) }
+    ensures exact { OnOk result (resolved_decl (known_of tables.old) (record_decl_syntax at name.now
+        (map var_syntax vars.now) (map field_decl_syntax fields.now)) ≡ Ok (known_of tables.new)) }
+    ensures faults { IfErr result (IsFirst (resolved_decl (known_of tables.old) (record_decl_syntax at name.now
+        (map var_syntax vars.now) (map field_decl_syntax fields.now)))) }
 {
     if is_taken(tables, name.as_slice()) {
         return Err(NameStop::Twice { at });
     }
-    let variables = unit_parameters(alloc, parameters_digest(vars), vars)?;
+    let mut variables = NameTable::with_digest(alloc, parameters_digest(vars));
+    add_unit_parameters(alloc, &mut variables, vars)?;
     let items = field_decls(alloc, tables, &variables, fields)?;
-    Ok(Record {
+    let record = Record {
         name: copied(alloc, name)?,
         at,
         units: variables.count(),
         fields: FieldDecls { items },
-    })
+    };
+    Ok(add_record(alloc, tables, record)?)
 }
 
 /// The function itself, where it may be called in its body.
@@ -115,13 +117,16 @@ fn head_of(alloc: Global, tables: &Tables, raw: &RawFunction) -> Result<Head, Na
     requires { AreTables tables.now }
     ensures exact { IfOk result (λ h. resolved_function (known_of tables.now) (whole_function_syntax raw.now)
         ≡ with_body tables.now (whole_function_syntax raw.now) h) }
+    ensures new { IfOk result (λ h.
+        is_among (function_names (known_of tables.now).program.functions) raw.now.name ≡ false) }
     ensures faults { IfErr result (IsFirst (resolved_function (known_of tables.now) (whole_function_syntax raw.now))) }
 {
     if tables.function_names.has(raw.name.as_slice()) {
         return Err(NameStop::Twice { at: raw.at });
     }
     let names = function_names(raw);
-    let unit_params = unit_parameters(alloc, names.digest, &raw.units.items)?;
+    let mut unit_params = NameTable::with_digest(alloc, names.digest);
+    add_unit_parameters(alloc, &mut unit_params, &raw.units.items)?;
     let units = unit_params.count();
     let variables = variables_of(alloc, unit_params, raw, names.in_body)?;
     let Parameters { notes, scope } = params(alloc, tables, &variables, &raw.params.items)?;
@@ -138,48 +143,50 @@ fn head_of(alloc: Global, tables: &Tables, raw: &RawFunction) -> Result<Head, Na
     })
 }
 
-/// A function: its name, its unit parameters, its parameters, its result, its body.
-fn function(alloc: Global, tables: &Tables, raw: &RawFunction) -> Result<Function, NameStop>
-    requires { AreTables tables.now }
-    ensures exact { IfOk result (λ f. resolved_function (known_of tables.now) (whole_function_syntax raw.now)
-        ≡ Ok (function_tree f)) }
-    ensures faults { IfErr result (IsFirst (resolved_function (known_of tables.now) (whole_function_syntax raw.now))) }
+/// Declares a function: its name, its unit parameters, its parameters, its result, its body.
+fn declare_function(alloc: Global, tables: &mut Tables, raw: &RawFunction) -> Result<(), NameStop>
+    requires { AreTables tables.old }
+    ensures tables { OnOk result (AreTables tables.new) }
+    ensures exact { OnOk result (resolved_decl (known_of tables.old) (function_syntax (whole_function_syntax raw.now))
+        ≡ Ok (known_of tables.new)) }
+    ensures faults { IfErr result (IsFirst (resolved_decl (known_of tables.old)
+        (function_syntax (whole_function_syntax raw.now)))) }
 {
-    let Head {
-        units,
-        params,
-        named,
-        result,
-        mut scope,
-        known,
-    } = head_of(alloc, tables, raw)?;
+    let mut head = head_of(alloc, tables, raw)?;
     let lookup = Lookup {
         alloc,
         tables,
-        body: &known,
+        body: &head.known,
     };
-    let body = expr(&lookup, &mut scope, &raw.body)?;
-    Ok(Function {
+    let body = expr(&lookup, &mut head.scope, &raw.body)?;
+    let function = Function {
         name: copied(alloc, &raw.name)?,
         at: raw.at,
         recursive: raw.recursive,
-        units,
-        params: Notes { items: params },
-        named,
-        result,
+        units: head.units,
+        params: Notes { items: head.params },
+        named: head.named,
+        result: head.result,
         body,
-    })
+    };
+    Ok(add_function(alloc, tables, function)?)
 }
 
 /// The same of a function that is handed over. Its body is let go while it is resolved.
-fn last_function(alloc: Global, tables: &Tables, raw: RawFunction) -> Result<Function, NameStop>
-    requires { AreTables tables.now }
-    ensures exact { IfOk result (λ f. resolved_function (known_of tables.now) (whole_function_syntax raw)
-        ≡ Ok (function_tree f)) }
-    ensures faults { IfErr result (IsFirst (resolved_function (known_of tables.now) (whole_function_syntax raw))) }
+fn declare_last_function(
+    alloc: Global,
+    tables: &mut Tables,
+    raw: RawFunction,
+) -> Result<(), NameStop>
+    requires { AreTables tables.old }
+    ensures tables { OnOk result (AreTables tables.new) }
+    ensures exact { OnOk result (resolved_decl (known_of tables.old) (function_syntax (whole_function_syntax raw))
+        ≡ Ok (known_of tables.new)) }
+    ensures faults { IfErr result (IsFirst (resolved_decl (known_of tables.old)
+        (function_syntax (whole_function_syntax raw)))) }
 {
     match head_of(alloc, tables, &raw) {
-        Ok(head) => whole_function(alloc, tables, head, raw),
+        Ok(head) => declare_whole(alloc, tables, head, raw),
         Err(stop) => {
             drop(raw);
             Err(stop)
@@ -187,16 +194,18 @@ fn last_function(alloc: Global, tables: &Tables, raw: RawFunction) -> Result<Fun
     }
 }
 
-/// The function of a text whose head is resolved.
-fn whole_function(
+/// Declares the function of a text whose head is resolved.
+fn declare_whole(
     alloc: Global,
-    tables: &Tables,
-    head: Head,
+    tables: &mut Tables,
+    mut head: Head,
     raw: RawFunction,
-) -> Result<Function, NameStop>
-    requires { AreTables tables.now }
-    ensures exact { IfOk result (λ f. with_body tables.now (whole_function_syntax raw) head ≡ Ok (function_tree f)) }
-    ensures faults { IfErr result (IsFirst (with_body tables.now (whole_function_syntax raw) head)) }
+) -> Result<(), NameStop>
+    requires tables { AreTables tables.old }
+    requires new { is_among (function_names (known_of tables.old).program.functions) raw.name ≡ false }
+    ensures tables { OnOk result (AreTables tables.new) }
+    ensures exact { OnOk result (with_whole tables.old (whole_function_syntax raw) head ≡ Ok (known_of tables.new)) }
+    ensures faults { IfErr result (IsFirst (with_whole tables.old (whole_function_syntax raw) head)) }
 {
     let RawFunction {
         at,
@@ -210,30 +219,23 @@ fn whole_function(
     drop(units);
     drop(params);
     drop(result);
-    let Head {
-        units,
-        params,
-        named,
-        result,
-        mut scope,
-        known,
-    } = head;
     let lookup = Lookup {
         alloc,
         tables,
-        body: &known,
+        body: &head.known,
     };
-    let body = body(&lookup, &mut scope, text)?;
-    Ok(Function {
+    let body = body(&lookup, &mut head.scope, text)?;
+    let function = Function {
         name,
         at,
         recursive,
-        units,
-        params: Notes { items: params },
-        named,
-        result,
+        units: head.units,
+        params: Notes { items: head.params },
+        named: head.named,
+        result: head.result,
         body,
-    })
+    };
+    Ok(add_function(alloc, tables, function)?)
 }
 
 /// Declares a base unit.
@@ -273,7 +275,6 @@ fn declare_short(
 }
 
 /// Takes a declaration into the tables.
-#[tactic(auto, using(crate::proofs::Taken::not_record))]
 pub fn declare(alloc: Global, tables: &mut Tables, decl: &RawDecl) -> Result<(), NameStop>
     requires { AreTables tables.old }
     ensures tables { OnOk result (AreTables tables.new) }
@@ -285,13 +286,9 @@ pub fn declare(alloc: Global, tables: &mut Tables, decl: &RawDecl) -> Result<(),
         RawDecl::Base(at, name) => declare_base(alloc, tables, *at, name),
         RawDecl::Short(at, name, unit) => declare_short(alloc, tables, *at, name, unit),
         RawDecl::Record(at, name, vars, fields) => {
-            let record = record_decl(alloc, tables, *at, name, &vars.items, &fields.items)?;
-            Ok(add_record(alloc, tables, record)?)
+            declare_record(alloc, tables, *at, name, &vars.items, &fields.items)
         }
-        RawDecl::Function(raw) => {
-            let function = function(alloc, tables, raw)?;
-            Ok(add_function(alloc, tables, function)?)
-        }
+        RawDecl::Function(raw) => declare_function(alloc, tables, raw),
     }
 }
 
@@ -303,14 +300,18 @@ pub fn declare_last(alloc: Global, tables: &mut Tables, decl: RawDecl) -> Result
     ensures faults { IfErr result (IsFirst (resolved_decl (known_of tables.old) (decl_syntax decl))) }
 {
     match decl {
-        RawDecl::Function(raw) => {
-            let function = last_function(alloc, tables, raw)?;
-            Ok(add_function(alloc, tables, function)?)
-        }
-        decl => {
-            let declared = declare(alloc, tables, &decl);
-            drop(decl);
+        RawDecl::Base(at, name) => declare_base(alloc, tables, at, &name),
+        RawDecl::Short(at, name, unit) => {
+            let declared = declare_short(alloc, tables, at, &name, &unit);
+            drop(unit);
             declared
         }
+        RawDecl::Record(at, name, vars, fields) => {
+            let declared = declare_record(alloc, tables, at, &name, &vars.items, &fields.items);
+            drop(vars);
+            drop(fields);
+            declared
+        }
+        RawDecl::Function(raw) => declare_last_function(alloc, tables, raw),
     }
 }

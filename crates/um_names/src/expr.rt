@@ -3,18 +3,19 @@
 ghost use Rattle.std.specs.Prelude.{◌≡◌, ◌∷◌, ◌++◌, [], Ok, IfOk, IfErr, OnOk, map};
 ghost use Rattle.um_tree.specs.ExprTree.{expr_tree, in_order};
 ghost use Rattle.um_tree.specs.RawTree.{binder_syntax, expr_syntax, exprs_in_order, field_part, fields_in_order};
-ghost use Rattle.um_tree.specs.RawTree.{call_syntax, arith_syntax, compare_syntax, and_syntax, or_syntax, cons_syntax};
-ghost use Rattle.um_tree.specs.RawTree.{if_syntax, let_syntax, match_syntax, fields_syntax, field_syntax};
+ghost use Rattle.um_tree.specs.RawTree.{call_syntax, if_syntax, let_syntax, match_syntax, fields_syntax, field_syntax};
 ghost use Rattle.um_names.specs.Bodies.{resolved_in, resolved_all_in, resolved_parts_in, resolved_arm, found_both};
+ghost use Rattle.um_names.specs.Joints.{joint_syntax};
 ghost use Rattle.um_measures.specs.Stops.{IsFirst};
 
+use crate::joint::{Joint, joined};
 use crate::lookup::{Arm, Lookup};
 use crate::node::{
     accessed, arity, called, distinct, empty_list, literal, located, name_alone, record_of,
 };
 use std::boxed::Box;
 use um_measures::{NameStop, Scope};
-use um_tree::{Arith, Binder, Expr, Exprs, Name, Node, RawExpr, RawField, RawNode, Sign};
+use um_tree::{Binder, Expr, Exprs, Name, Node, RawExpr, RawField, RawNode};
 
 /// The expression of a text, in a scope.
 #[cycle(expr)]
@@ -41,10 +42,10 @@ pub fn expr(lookup: &Lookup, scope: &mut Scope, e: &RawExpr) -> Result<Expr, Nam
         RawNode::Neg(a) => located(at, Node::Neg(boxed(lookup, scope, a)?)),
         RawNode::Not(a) => located(at, Node::Not(boxed(lookup, scope, a)?)),
         RawNode::Pow(a, k) => located(at, Node::Pow(boxed(lookup, scope, a)?, *k)),
-        RawNode::Arith(op, a, b) => arith_expr(lookup, scope, at, *op, a, b),
-        RawNode::Compare(sign, a, b) => compare_expr(lookup, scope, at, *sign, a, b),
-        RawNode::And(a, b) => and_expr(lookup, scope, at, a, b),
-        RawNode::Or(a, b) => or_expr(lookup, scope, at, a, b),
+        RawNode::Arith(op, a, b) => joined_expr(lookup, scope, at, Joint::Arith(*op), a, b),
+        RawNode::Compare(sign, a, b) => joined_expr(lookup, scope, at, Joint::Compare(*sign), a, b),
+        RawNode::And(a, b) => joined_expr(lookup, scope, at, Joint::And, a, b),
+        RawNode::Or(a, b) => joined_expr(lookup, scope, at, Joint::Or, a, b),
         RawNode::If(c, a, b) => if_expr(lookup, scope, at, c, a, b),
         RawNode::Let(x, a, b) => let_expr(lookup, scope, at, x, a, b),
         RawNode::Match(l, a, x, y, b) => {
@@ -60,7 +61,7 @@ pub fn expr(lookup: &Lookup, scope: &mut Scope, e: &RawExpr) -> Result<Expr, Nam
             let items = exprs(lookup, scope, &items.items)?;
             located(at, Node::List(Exprs { items }))
         }
-        RawNode::Cons(a, b) => cons_expr(lookup, scope, at, a, b),
+        RawNode::Cons(a, b) => joined_expr(lookup, scope, at, Joint::Cons, a, b),
         RawNode::Rec(fields) => record_expr(lookup, scope, at, &fields.items),
         RawNode::Field(place, name, a) => field_expr(lookup, scope, at, *place, name, a),
         RawNode::Bracket(a) => expr(lookup, scope, a),
@@ -131,99 +132,24 @@ fn call_expr(
     located(at, Node::Call(function, Exprs { items }))
 }
 
-/// A sum, a difference, a product or a quotient.
+/// Two parts, joined.
 #[cycle(expr)]
-fn arith_expr(
+fn joined_expr(
     lookup: &Lookup,
     scope: &mut Scope,
     at: u32,
-    op: Arith,
+    joint: Joint,
     a: &RawExpr,
     b: &RawExpr,
 ) -> Result<Expr, NameStop>
     ensures exact { IfOk result (λ r. resolved_in lookup.now.tables.now lookup.now.body.now scope.old
-        (arith_syntax at op (expr_syntax a.now) (expr_syntax b.now)) ≡ Ok (expr_tree r)) }
+        (joint_syntax joint at (expr_syntax a.now) (expr_syntax b.now)) ≡ Ok (expr_tree r)) }
     ensures faults { IfErr result (IsFirst (resolved_in lookup.now.tables.now lookup.now.body.now scope.old
-        (arith_syntax at op (expr_syntax a.now) (expr_syntax b.now)))) }
+        (joint_syntax joint at (expr_syntax a.now) (expr_syntax b.now)))) }
     ensures scope { OnOk result (scope.new ≡ scope.old) }
 {
-    let (left, right) = two(lookup, scope, a, b)?;
-    located(at, Node::Arith(op, left, right))
-}
-
-/// A comparison.
-#[cycle(expr)]
-fn compare_expr(
-    lookup: &Lookup,
-    scope: &mut Scope,
-    at: u32,
-    sign: Sign,
-    a: &RawExpr,
-    b: &RawExpr,
-) -> Result<Expr, NameStop>
-    ensures exact { IfOk result (λ r. resolved_in lookup.now.tables.now lookup.now.body.now scope.old
-        (compare_syntax at sign (expr_syntax a.now) (expr_syntax b.now)) ≡ Ok (expr_tree r)) }
-    ensures faults { IfErr result (IsFirst (resolved_in lookup.now.tables.now lookup.now.body.now scope.old
-        (compare_syntax at sign (expr_syntax a.now) (expr_syntax b.now)))) }
-    ensures scope { OnOk result (scope.new ≡ scope.old) }
-{
-    let (left, right) = two(lookup, scope, a, b)?;
-    located(at, Node::Compare(sign, left, right))
-}
-
-#[cycle(expr)]
-fn and_expr(
-    lookup: &Lookup,
-    scope: &mut Scope,
-    at: u32,
-    a: &RawExpr,
-    b: &RawExpr,
-) -> Result<Expr, NameStop>
-    ensures exact { IfOk result (λ r. resolved_in lookup.now.tables.now lookup.now.body.now scope.old
-        (and_syntax at (expr_syntax a.now) (expr_syntax b.now)) ≡ Ok (expr_tree r)) }
-    ensures faults { IfErr result (IsFirst (resolved_in lookup.now.tables.now lookup.now.body.now scope.old
-        (and_syntax at (expr_syntax a.now) (expr_syntax b.now)))) }
-    ensures scope { OnOk result (scope.new ≡ scope.old) }
-{
-    let (left, right) = two(lookup, scope, a, b)?;
-    located(at, Node::And(left, right))
-}
-
-#[cycle(expr)]
-fn or_expr(
-    lookup: &Lookup,
-    scope: &mut Scope,
-    at: u32,
-    a: &RawExpr,
-    b: &RawExpr,
-) -> Result<Expr, NameStop>
-    ensures exact { IfOk result (λ r. resolved_in lookup.now.tables.now lookup.now.body.now scope.old
-        (or_syntax at (expr_syntax a.now) (expr_syntax b.now)) ≡ Ok (expr_tree r)) }
-    ensures faults { IfErr result (IsFirst (resolved_in lookup.now.tables.now lookup.now.body.now scope.old
-        (or_syntax at (expr_syntax a.now) (expr_syntax b.now)))) }
-    ensures scope { OnOk result (scope.new ≡ scope.old) }
-{
-    let (left, right) = two(lookup, scope, a, b)?;
-    located(at, Node::Or(left, right))
-}
-
-/// A head in front of a tail.
-#[cycle(expr)]
-fn cons_expr(
-    lookup: &Lookup,
-    scope: &mut Scope,
-    at: u32,
-    a: &RawExpr,
-    b: &RawExpr,
-) -> Result<Expr, NameStop>
-    ensures exact { IfOk result (λ r. resolved_in lookup.now.tables.now lookup.now.body.now scope.old
-        (cons_syntax at (expr_syntax a.now) (expr_syntax b.now)) ≡ Ok (expr_tree r)) }
-    ensures faults { IfErr result (IsFirst (resolved_in lookup.now.tables.now lookup.now.body.now scope.old
-        (cons_syntax at (expr_syntax a.now) (expr_syntax b.now)))) }
-    ensures scope { OnOk result (scope.new ≡ scope.old) }
-{
-    let (head, tail) = two(lookup, scope, a, b)?;
-    located(at, Node::Cons(head, tail))
+    let (first, second) = two(lookup, scope, a, b)?;
+    Ok(joined(at, joint, first, second))
 }
 
 /// A condition and its arms.

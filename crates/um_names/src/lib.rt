@@ -13,6 +13,7 @@ mod callable;
 mod declare;
 mod expr;
 mod fields;
+mod joint;
 mod known;
 mod laws;
 mod lookup;

@@ -13,27 +13,25 @@ ghost use Rattle.um_names.specs.Tables.{AreTables, known_of};
 use crate::known::Tables;
 use crate::types::note;
 use std::alloc::Global;
-use um_measures::{NameDigest, NameStop, NameTable, Scope};
+use um_measures::{NameStop, NameTable, Scope};
 use um_tree::{Note, RawParam, RawType, RawVar};
 
-/// The unit parameters of a record or a function, each once, in the order of their numbers, in a table with the digest
-/// of all names that may come into it.
-pub fn unit_parameters(
+/// Adds the unit parameters of a record or a function, each once, in the order of their numbers.
+pub fn add_unit_parameters(
     alloc: Global,
-    digest: NameDigest,
+    names: &mut NameTable,
     raw: &[RawVar],
-) -> Result<NameTable, NameStop>
-    ensures exact { IfOk result (λ names. resolved_parameters [] (map var_syntax raw.now) ≡ Ok names) }
-    ensures faults { IfErr result (IsFirst (resolved_parameters [] (map var_syntax raw.now))) }
+) -> Result<(), NameStop>
+    ensures exact { OnOk result (resolved_parameters names.old (map var_syntax raw.now) ≡ Ok names.new) }
+    ensures faults { IfErr result (IsFirst (resolved_parameters names.old (map var_syntax raw.now))) }
 {
-    let mut names = NameTable::with_digest(alloc, digest);
     for var in raw {
         if names.has(var.name.as_slice()) {
             return Err(NameStop::Twice { at: var.at });
         }
         names.add(alloc, var.name.as_slice())?;
     }
-    Ok(names)
+    Ok(())
 }
 
 /// The note of a parameter, whose name is looked at before its type; it is known from here on.

@@ -49,7 +49,13 @@ impl Prefix {
     {
         let mut reader = ProgramReader::new(alloc);
         for token in tokens {
-            take_copy(alloc, &mut reader, token)?;
+            match take_copy(alloc, &mut reader, token) {
+                Ok(()) => {}
+                Err(stop) => {
+                    drop(reader);
+                    return Err(stop);
+                }
+            }
         }
         Ok(Prefix { reader })
     }

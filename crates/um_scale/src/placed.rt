@@ -109,8 +109,7 @@ fn push_two(found: &mut Vec<(u32, Frac)>, a: &Expr, b: &Expr) -> Result<(), Allo
         ≡ found.old.items ++ (literals (expr_tree a.now) ++ literals (expr_tree b.now))) }
 {
     push_literals(found, a)?;
-    push_literals(found, b)?;
-    Ok(())
+    push_literals(found, b)
 }
 
 #[cycle(push_literals)]
@@ -119,8 +118,7 @@ fn push_three(found: &mut Vec<(u32, Frac)>, a: &Expr, b: &Expr, c: &Expr) -> Res
         ++ (literals (expr_tree a.now) ++ (literals (expr_tree b.now) ++ literals (expr_tree c.now)))) }
 {
     push_literals(found, a)?;
-    push_two(found, b, c)?;
-    Ok(())
+    push_two(found, b, c)
 }
 
 #[cycle(push_literals)]

@@ -48,17 +48,14 @@ item_written number p v vs t i whole begun apart new so_far gap item =
     so_far ∙ flat ∙ ap (λ s. (s ++ w) ++ rest) (sym gap) ∙ ap (λ s. s ++ rest) (sym item) ∙ ap (λ s. new ++ items_by number p s vs t) (sym (gap_more i separator))
 
 -- one more field is written
-pub field_written : (number : Frac → TypeTree → List ℕ) (p : ProgramTree) (v : ValueTree) (vs : ValueTrees) (f : FieldTree) (fs : List FieldTree) (i : ℕ) (whole begun apart named equal new : List ℕ) → whole ≡ begun ++ fields_by number p (gap_before i separator) (more_values v vs) (f ∷ fs)
-    → apart ≡ begun ++ gap_before i separator → named ≡ apart ++ f.name → equal ≡ named ++ codes " = " → new ≡ equal ++ text_by number p v f.type → whole ≡ new ++ fields_by number p (gap_before (i + 1) separator) vs fs
-field_written number p v vs f fs i whole begun apart named equal new so_far gap name sign value =
+pub field_written : (number : Frac → TypeTree → List ℕ) (p : ProgramTree) (v : ValueTree) (vs : ValueTrees) (f : FieldTree) (fs : List FieldTree) (i : ℕ) (whole begun named new : List ℕ) → whole ≡ begun ++ fields_by number p (gap_before i separator) (more_values v vs) (f ∷ fs)
+    → named ≡ begun ++ (gap_before i separator ++ f.name ++ codes " = ") → new ≡ named ++ text_by number p v f.type → whole ≡ new ++ fields_by number p (gap_before (i + 1) separator) vs fs
+field_written number p v vs f fs i whole begun named new so_far name value =
     let g = gap_before i separator in
     let w = text_by number p v f.type in
     let rest = fields_by number p separator vs fs in
-    let flat : begun ++ ((((g ++ f.name) ++ codes " = ") ++ w) ++ rest) ≡ ((((begun ++ g) ++ f.name) ++ codes " = ") ++ w) ++ rest = simp (append_assoc) refl in
-    so_far ∙ flat ∙ ap (λ s. (((s ++ f.name) ++ codes " = ") ++ w) ++ rest) (sym gap) ∙ ap (λ s. ((s ++ codes " = ") ++ w) ++ rest) (sym name)
-    ∙ ap (λ s. (s ++ w) ++ rest) (sym sign)
-    ∙ ap (λ s. s ++ rest) (sym value)
-    ∙ ap (λ s. new ++ fields_by number p s vs fs) (sym (gap_more i separator))
+    let flat : begun ++ ((((g ++ f.name) ++ codes " = ") ++ w) ++ rest) ≡ ((begun ++ ((g ++ f.name) ++ codes " = ")) ++ w) ++ rest = simp (append_assoc) refl in
+    so_far ∙ flat ∙ ap (λ s. (s ++ w) ++ rest) (sym name) ∙ ap (λ s. s ++ rest) (sym value) ∙ ap (λ s. new ++ fields_by number p s vs fs) (sym (gap_more i separator))
 
 -- ---- the fields from number i on, with the record's units put in
 

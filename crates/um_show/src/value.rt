@@ -1,5 +1,5 @@
 //! The texts of values.
-ghost use Rattle.std.specs.Prelude.{◌≡◌, ◌++◌, ◌&&◌, [], List, IfOk, OnOk, map, slice_get};
+ghost use Rattle.std.specs.Prelude.{◌≡◌, ◌++◌, ◌&&◌, [], List, IfOk, OnOk, map, slice_get, codes, true};
 ghost use Rattle.um_units.specs.PowerMap.{PowerMap, nth};
 ghost use Rattle.um_units.specs.Range.{RangeUnless};
 ghost use Rattle.um_tree.specs.TypeTree.{type_tree, bool_type};
@@ -7,14 +7,16 @@ ghost use Rattle.um_tree.specs.ProgramTree.{field_tree, program_tree};
 ghost use Rattle.um_tree.specs.Typing.{put};
 ghost use Rattle.um_tree.specs.ValueTree.{value_tree, values_in_order};
 ghost use Rattle.um_elim.specs.Application.{type_fits};
-ghost use Rattle.um_show.specs.ValueText.{item_in, units_in, field_at, fields_in, truth_text, value_text};
+ghost use Rattle.um_show.specs.Lists.{gap_before};
+ghost use Rattle.um_show.specs.ValueText.{separator, item_in, units_in, field_at, fields_in, truth_text, value_text};
 ghost use Rattle.um_show.specs.ValueText.{text_by, items_by, fields_by, parts_fit, items_fit, fields_fit};
 
 use crate::printer::{Exact, ValuePrinter};
 use crate::text::{push_gap, push_name};
 use std::alloc::{AllocError, Global};
 use um_elim::put_in_type;
-use um_tree::{FieldDecl, Program, Ty, Value};
+use um_frac::Frac;
+use um_tree::{FieldDecl, Name, Program, Ty, Value};
 use um_units::{Unit, UnitStop};
 
 /// The text of a value at a type: `true`, `false`; a number, and directly behind it its unit in angle brackets, nothing
@@ -72,23 +74,26 @@ fn push_value<P: ValuePrinter>(
     ensures range { RangeUnless result (parts_fit (P.tree printer.now) (value_tree value.now) (type_tree ty.now)) }
 {
     match value {
-        Value::Bool(b) => Ok(push_truth(text, *b)?),
-        Value::Num(c) => Ok(printer.push_number(alloc, text, *c, ty)?),
+        Value::Bool(b) => push_truth(text, *b),
+        Value::Num(c) => push_number(alloc, text, printer, *c, ty),
         Value::List(values) => {
             text.push(b'[')?;
-            push_items(alloc, text, printer, &values.items, ty)?;
-            Ok(text.push(b']')?)
+            let truth = Ty::Bool;
+            let pushed = push_items(alloc, text, printer, &values.items, item_of(ty, &truth));
+            drop(truth);
+            pushed?;
+            push_bytes(text, b"]")
         }
         Value::Rec(r, values) => {
             let fields = fields_of(printer, *r);
             text.extend_from_slice(b"{ ")?;
             push_fields(alloc, text, printer, &values.items, fields, units_of(ty))?;
-            Ok(text.extend_from_slice(b" }")?)
+            push_bytes(text, b" }")
         }
     }
 }
 
-/// Adds the texts of items of a list of this type, `; ` between each two.
+/// Adds the texts of values of this type, `; ` between each two.
 #[cycle(push_value)]
 fn push_items<P: ValuePrinter>(
     alloc: Global,
@@ -99,15 +104,13 @@ fn push_items<P: ValuePrinter>(
 ) -> Result<(), UnitStop>
     ensures exact { OnOk result (text.new.items ≡ text.old.items
         ++ items_by (P.number printer.now) (P.tree printer.now) [] (values_in_order (map value_tree values.now))
-        (item_in (type_tree ty.now))) }
+        (type_tree ty.now)) }
     ensures range { RangeUnless result (items_fit (P.tree printer.now)
-        (values_in_order (map value_tree values.now)) (item_in (type_tree ty.now))) }
+        (values_in_order (map value_tree values.now)) (type_tree ty.now)) }
 {
-    let truth = Ty::Bool;
-    let item = item_of(ty, &truth);
     for i in 0..values.len() {
         push_gap(text, i, b"; ")?;
-        push_value(alloc, text, printer, &values[i], item)?;
+        push_value(alloc, text, printer, &values[i], ty)?;
     }
     Ok(())
 }
@@ -132,9 +135,7 @@ fn push_fields<P: ValuePrinter>(
         let Some(field) = fields.get(i) else {
             return Ok(());
         };
-        push_gap(text, i, b"; ")?;
-        push_name(text, &field.name)?;
-        text.extend_from_slice(b" = ")?;
+        push_field_name(text, i, &field.name)?;
         push_part(alloc, text, printer, &values[i], &field.ty, units)?;
     }
     Ok(())
@@ -162,14 +163,45 @@ fn push_part<P: ValuePrinter>(
     done
 }
 
-fn push_truth(text: &mut Vec<u8>, b: bool) -> Result<(), AllocError>
-    ensures { OnOk result (text.new.items ≡ text.old.items ++ truth_text b) }
+/// Adds a number at a type.
+fn push_number<P: ValuePrinter>(
+    alloc: Global,
+    text: &mut Vec<u8>,
+    printer: &P,
+    c: Frac,
+    ty: &Ty,
+) -> Result<(), UnitStop>
+    ensures exact { OnOk result (text.new.items ≡ text.old.items ++ P.number printer.now c (type_tree ty.now)) }
+    ensures range { RangeUnless result true }
 {
-    if b {
-        text.extend_from_slice(b"true")
-    } else {
-        text.extend_from_slice(b"false")
+    Ok(printer.push_number(alloc, text, c, ty)?)
+}
+
+fn push_truth(text: &mut Vec<u8>, b: bool) -> Result<(), UnitStop>
+    ensures exact { OnOk result (text.new.items ≡ text.old.items ++ truth_text b) }
+    ensures range { RangeUnless result true }
+{
+    match b {
+        true => push_bytes(text, b"true"),
+        false => push_bytes(text, b"false"),
     }
+}
+
+fn push_bytes(text: &mut Vec<u8>, bytes: &[u8]) -> Result<(), UnitStop>
+    ensures exact { OnOk result (text.new.items ≡ text.old.items ++ bytes.now) }
+    ensures range { RangeUnless result true }
+{
+    Ok(text.extend_from_slice(bytes)?)
+}
+
+/// Adds what stands before the value of the field of this index: the separator, the name and the sign.
+fn push_field_name(text: &mut Vec<u8>, i: usize, name: &Name) -> Result<(), AllocError>
+    ensures { OnOk result (text.new.items
+        ≡ text.old.items ++ (gap_before i separator ++ name.now ++ codes " = ")) }
+{
+    push_gap(text, i, b"; ")?;
+    push_name(text, name)?;
+    text.extend_from_slice(b" = ")
 }
 
 /// The type of a list's items.

@@ -61,7 +61,24 @@ pub back_left : (xs ys : List Token) (k : ℕ) → 0 < k → k ≤ length xs →
 back_left xs ys k some long = left xs ys (length xs - k) (omega (arith, some, long))
 
 -- what `get` answers
-pub got : (ts : List Token) (i : ℕ) (r : Option (Bor Token)) → IfSome r (λ t. t.now ≡ slice_index_or ts i t.now) → MatchOption r (length ts ≤ i) (λ t. (i < length ts) × HoldsAt (λ x. t.now ≡ x) ts i)
+pub got : {X : Type 0} (ts : List X) (i : ℕ) (r : Option (Bor X)) → IfSome r (λ t. t.now ≡ slice_index_or ts i t.now) → MatchOption r (length ts ≤ i) (λ t. (i < length ts) × HoldsAt (λ x. t.now ≡ x) ts i)
     → option_copied r ≡ slice_get ts i
 got ts i None is within = sym (slice_get_past ts i within)
 got ts i (Some t) is within = sym (slice_get_read ts (length ts) i t.now refl within.0 is)
+
+-- what stands in a block, of blocks that some others follow
+pub in_block : (bs : List (Vec Token)) (ys : List Token) (k q r : ℕ) (b : Vec Token) → AreWhole bs → k ≡ q * 256 + r → r < 256 → slice_get bs q ≡ Some b
+    → slice_get (joined bs ++ ys) k ≡ slice_get b.items r
+in_block [] ys k q r b w place few is = absurd (none-some b is)
+in_block (a ∷ bs) ys k zero r b w place few is =
+    ap (slice_get (joined (a ∷ bs) ++ ys)) (omega (arith, place)) ∙ ap (λ ts. slice_get ts r) (append_assoc a.items (joined bs) ys)
+    ∙ left a.items (joined bs ++ ys) r (omega (arith, w.0, few)) ∙ ap (λ (x : Vec Token). slice_get x.items r) (same_Some a b is)
+in_block (a ∷ bs) ys k (suc q) r b w place few is =
+    ap (λ ts. slice_get ts k) (append_assoc a.items (joined bs) ys) ∙ right a.items (joined bs ++ ys) k (q * 256 + r) (omega (arith, w.0, place))
+    ∙ in_block bs ys (q * 256 + r) q r b w.1 refl few is
+
+-- what stands after the blocks
+pub after_blocks : (bs : List (Vec Token)) (ys : List Token) (k : ℕ) → AreWhole bs → length bs * 256 ≤ k → slice_get (joined bs ++ ys) k ≡ slice_get ys (k - length bs * 256)
+after_blocks bs ys k w past =
+    let size = length-joined bs w in
+    right (joined bs) ys k (k - length bs * 256) (omega (arith, size, past))

@@ -86,17 +86,6 @@ impl TokenBlocks {
         }
     }
 
-    /// The tokens of a list, in one block. Takes no memory.
-    pub fn from_tokens(alloc: Global, tokens: Tokens) -> TokenBlocks
-        ensures { result ≡ tokens }
-    {
-        TokenBlocks {
-            alloc,
-            whole: Vec::new(alloc),
-            last: tokens.into_vec(),
-        }
-    }
-
     /// The tokens in one piece. Takes no memory if they lie in one block.
     pub fn into_tokens(self) -> Result<Tokens, AllocError>
         ensures { IfOk result (λ tokens. tokens ≡ self) }
@@ -159,6 +148,17 @@ impl TokenBlocks {
         ensures { result ≡ length self.now }
     {
         self.whole.len() * BLOCK + self.last.len()
+    }
+
+    /// The token at a place of the list, the first one at 0, if there is one.
+    #[inline(always)]
+    pub fn get(&self, k: usize) -> Option<&Token>
+        ensures { option_copied result ≡ slice_get self.now k }
+    {
+        match self.whole.get(k / BLOCK) {
+            Some(block) => block.get(k % BLOCK),
+            None => self.last.get(k - self.whole.len() * BLOCK),
+        }
     }
 
     /// The last token, if there is one.

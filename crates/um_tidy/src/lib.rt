@@ -1,7 +1,7 @@
 //! A layout that keeps the tokens, the comments and the line breaks of a text.
 //!
 //! ```
-//! let text = tidy_text(alloc, "let  k=1<m> // one", tokens.as_slice())?; // `let k = 1<m> // one` and a line feed
+//! let text = tidy_text(alloc, "let  k=1<m> // one", &tokens)?; // `let k = 1<m> // one` and a line feed
 //! ```
 #![tactic(auto)]
 

@@ -1,5 +1,5 @@
 // A text laid out anew.
-ghost use Rattle.std.specs.Prelude.{◌≡◌, ◌≤◌, ◌++◌, OnOk, IfOk, length, slice_range};
+ghost use Rattle.std.specs.Prelude.{◌≡◌, ◌<◌, ◌≤◌, ◌+◌, ◌∷◌, ◌++◌, OnOk, IfOk, drop, length, slice_range};
 ghost use Rattle.std.specs.Str.{chars};
 ghost use Rattle.um_syntax.specs.Lexing.{body_place, HasTokens};
 ghost use Rattle.um_syntax.specs.Order.{AreInOrder};
@@ -13,7 +13,7 @@ use crate::spacing::is_spaced;
 use crate::stand::{Stand, stand_of, start};
 use std::alloc::{AllocError, Global};
 use um_draft::Draft;
-use um_syntax::{NoMemory, Token};
+use um_syntax::{NoMemory, Token, TokenBlocks};
 
 /// The text laid out anew: its tokens as they are spelled, its comments and its line breaks stay, and the white space
 /// between them is that of the layout of programs.
@@ -22,7 +22,7 @@ use um_syntax::{NoMemory, Token};
 /// spaces, with at least two. Of several blank lines in a row one stays, and none at the start and the end. The text
 /// is at most 1,048,576 bytes long, and the tokens are its own. `NoMemory` is the one error. The layout is this
 /// project's own.
-pub fn tidy_text(alloc: Global, text: &str, tokens: &[Token]) -> Result<Vec<u8>, NoMemory>
+pub fn tidy_text(alloc: Global, text: &str, tokens: &TokenBlocks) -> Result<Vec<u8>, NoMemory>
     requires short { length text.now ≤ 1048576 }
     requires tokens { HasTokens (chars text.now) tokens.now }
     ensures { IfOk result (λ answer. answer.items ≡ tidied text.now tokens.now) }
@@ -45,45 +45,57 @@ fn tidied_from(
     alloc: Global,
     at: usize,
     bytes: &[u8],
-    tokens: &[Token],
+    tokens: &TokenBlocks,
 ) -> Result<Vec<u8>, AllocError>
     requires short { length bytes.now ≤ 1048576 }
     requires in_order { AreInOrder at tokens.now (length bytes.now) }
     ensures { IfOk result (λ answer. answer.items ≡ tidied_from at bytes.now tokens.now) }
 {
     let mut text = Draft::new(alloc);
-    let Some((first, rest)) = tokens.split_first() else {
+    if tokens.len() == 0 {
         push_only_gap(&mut text, &bytes[at..])?;
         return Ok(text.into_bytes());
-    };
+    }
+    let first = token_at(tokens, 0);
     let stand = stand_of(start(), first);
     push_first_gap(&mut text, &bytes[at..first.start as usize], stand.begins)?;
     push_spelling(&mut text, bytes, first)?;
-    push_after(&mut text, bytes, stand, first, rest)?;
+    push_after(&mut text, bytes, stand, first, tokens)?;
     Ok(text.into_bytes())
 }
 
-/// Adds what follows a token that stands so.
+/// Adds what follows the first token, which stands so.
 fn push_after(
     text: &mut Draft,
     bytes: &[u8],
     stand: Stand,
-    token: &Token,
-    tokens: &[Token],
+    first: &Token,
+    tokens: &TokenBlocks,
 ) -> Result<(), AllocError>
     requires short { length bytes.now ≤ 1048576 }
-    requires in_order { AreInOrder token.now.end tokens.now (length bytes.now) }
+    requires in_order { AreInOrder first.now.end (drop 1 tokens.now) (length bytes.now) }
     ensures { OnOk result (text.new.items
-        ≡ text.old.items ++ tidied_after bytes.now stand token.now tokens.now) }
+        ≡ text.old.items ++ tidied_after bytes.now stand first.now (drop 1 tokens.now)) }
 {
     let mut stand = stand;
-    let mut last = token;
-    for k in 0..tokens.len() {
-        let token = &tokens[k];
+    let mut last = first;
+    for k in 1..tokens.len() {
+        let token = token_at(tokens, k);
         stand = push_token(text, bytes, stand, last, token)?;
         last = token;
     }
     push_last_gap(text, &bytes[last.end as usize..])
+}
+
+/// The token at a place.
+fn token_at(tokens: &TokenBlocks, k: usize) -> &Token
+    requires { k < length tokens.now }
+    ensures { drop k tokens.now ≡ result.now ∷ drop (k + 1) tokens.now }
+{
+    match tokens.get(k) {
+        Some(token) => token,
+        None => unreachable!(),
+    }
 }
 
 /// Adds a token with what stands between it and the one before it, and tells how it stands.

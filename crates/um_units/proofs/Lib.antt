@@ -9,6 +9,7 @@ pub mod Solutions
 mod AtomOrder
 mod Nonzero
 mod MergeLemmas
+mod WidePowers
 mod WideMerge
 mod PowerMerge
 mod ComputedTerms

@@ -1,4 +1,5 @@
 use Rattle.std.proofs.Common.{◌≡◌, ◌+◌, ◌-◌, ◌<◌, ◌++◌, [], ◌∷◌, append_assoc, drop, map, length, get_or, refl, sym, ap, ◌∙◌, arith}
+use Rattle.std.proofs.lemmas.Grind.{common_steps}
 use Rattle.std.proofs.Math.Seq.{drop-append_seam}
 use Rattle.std.proofs.lemmas.List.{drop_more, length-append, length-set, drop-map}
 use Rattle.um_tree.specs.TypeTree.{type_tree}
@@ -54,3 +55,18 @@ returns c = λ heads count.
     ∙ c.loop-i.invariant.done
     ∙ (λ j. retyped (placed_nodes [] (drop (first j) order)) (map type_tree (drop (same j) ts)))
     ∙ ap (retyped (placed_nodes [] order)) (sym (drop-map type_tree heads ts))
+
+pub loop-i-init : goal.loop-i-init
+loop-i-init c = grind (arith, common_steps)
+
+pub loop-i-preserved-in-Some : goal.loop-i-preserved-in-Some
+loop-i-preserved-in-Some c = grind (arith, common_steps)
+
+pub loop-i-preserved-in-Some-2 : goal.loop-i-preserved-in-Some-2
+loop-i-preserved-in-Some-2 c = grind (arith, common_steps)
+
+pub loop-i-preserved-in-Some-3 : goal.loop-i-preserved-in-Some-3
+loop-i-preserved-in-Some-3 c = grind (arith, common_steps)
+
+pub loop-i-preserved-in-Some-4 : goal.loop-i-preserved-in-Some-4
+loop-i-preserved-in-Some-4 c = grind (arith, common_steps)

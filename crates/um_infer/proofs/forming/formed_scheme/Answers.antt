@@ -3,7 +3,7 @@ use Rattle.std.proofs.lemmas.Result.{err_from_is_err_and}
 use Rattle.um_elim.specs.Solution.{rigid_units}
 use Rattle.um_rows.specs.Answers.{rows_signature}
 use Rattle.um_rows.specs.Judgement.{by_rows}
-use Rattle.um_infer.specs.Forming.{IsSolutionOf, IsRefusal}
+use Rattle.um_solving.specs.Solving.{IsSolutionOf, IsRefusal}
 use Rattle.um_infer.proofs.forming.formed_scheme.Goals as goal
 
 pub rigid_solver-requires-clause-variables : goal.rigid_solver-requires-clause-variables

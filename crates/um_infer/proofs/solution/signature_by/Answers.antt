@@ -1,6 +1,6 @@
 use Rattle.std.proofs.Common.{subst}
 use Rattle.um_rows.specs.Answers.{rows_signature}
-use Rattle.um_infer.specs.Forming.{IsRefusal}
+use Rattle.um_solving.specs.Solving.{IsRefusal}
 use Rattle.um_infer.proofs.FormingSteps.{past_is_judged}
 use Rattle.um_infer.proofs.solution.signature_by.Goals as goal
 

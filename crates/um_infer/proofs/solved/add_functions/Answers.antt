@@ -1,6 +1,5 @@
 use Rattle.std.proofs.Common.{◌≡◌, ◌<◌, ◌+◌, ◌∷◌, [], ◌++◌, List, map, length, slice_get, sym, ap, ◌∙◌, subst, arith}
 use Rattle.um_tree.specs.ProgramTree.{SchemeTree, program_tree, scheme_tree}
-use Rattle.um_infer.specs.declared.solved.SolvedFunction.{SolvedFunction}
 use Rattle.um_infer.specs.Inference.{all_schemes, infer_first}
 use Rattle.um_infer.specs.Answers.{scheme_trees}
 use Rattle.um_infer.specs.SolvedPrograms.{AreSolvedFunctions}

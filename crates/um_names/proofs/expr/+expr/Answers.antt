@@ -1,4 +1,4 @@
-use Rattle.std.proofs.Common.{map, ap, ◌∙◌, subst, Ok}
+use Rattle.std.proofs.Common.{map, ap, ◌∙◌, sym, subst, Ok}
 use Rattle.std.proofs.lemmas.Result.{err_from_is_err_and}
 use Rattle.um_tree.specs.ExprTree.{expr_tree, in_order}
 use Rattle.um_tree.specs.RawTree.{FieldPart, expr_syntax, field_part}
@@ -9,7 +9,22 @@ use Rattle.um_measures.specs.Scopes.{Scope}
 use Rattle.um_names.specs.Bodies.{resolved_in, callables_of}
 use Rattle.um_measures.proofs.Stages.{stage_stops, stage_ends}
 use Rattle.um_names.proofs.BodyLists.{exprs_each, parts_each, exprs_first, parts_first}
+use Rattle.um_names.proofs.JointNames.{joint_found, joint_first}
 use Rattle.um_names.proofs.expr.+expr.Goals as goal
+
+pub joined_expr-returns-clause-exact : goal.joined_expr-returns-clause-exact
+joined_expr-returns-clause-exact t c =
+    let a = c.args in
+    let first = c.in_ok-first.first.value in
+    let second = c.in_ok-first.second.value in
+    joint_found a.lookup.now.tables.now a.lookup.now.body.now a.scope.now a.at (expr_syntax a.a.now) (expr_syntax a.b.now) a.joint (expr_tree first) (expr_tree second) c.in_ok-first.ensures.first c.in_ok-first.ensures.second
+    ∙ ap Ok (sym c.joined.ensures)
+
+pub joined_expr-returns-in_err-first-clause-faults : goal.joined_expr-returns-in_err-first-clause-faults
+joined_expr-returns-in_err-first-clause-faults t c =
+    let a = c.args in
+    let p = err_from_is_err_and c.from_residual.result c.from_residual.ensures.1 in
+    rw (p.1, p.2) (joint_first a.lookup.now.tables.now a.lookup.now.body.now a.scope.now a.at (expr_syntax a.a.now) (expr_syntax a.b.now) a.joint c.in_err-first.field-0.0 c.in_err-first.ensures.faults)
 
 pub exprs-returns-clause-exact : goal.exprs-returns-clause-exact
 exprs-returns-clause-exact t c =

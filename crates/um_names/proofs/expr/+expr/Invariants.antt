@@ -38,20 +38,8 @@ decreases-full_arm l = the_size l.arm.now.part.now + the_size l.arm.now.part.now
 abbrev pub decreases-field_expr : goal.decreases-field_expr
 decreases-field_expr l = the_size l.a.now + the_size l.a.now + 1
 
-abbrev pub decreases-arith_expr : goal.decreases-arith_expr
-decreases-arith_expr l = max (the_size l.a.now) (the_size l.b.now) + max (the_size l.a.now) (the_size l.b.now) + 3
-
-abbrev pub decreases-compare_expr : goal.decreases-compare_expr
-decreases-compare_expr l = max (the_size l.a.now) (the_size l.b.now) + max (the_size l.a.now) (the_size l.b.now) + 3
-
-abbrev pub decreases-and_expr : goal.decreases-and_expr
-decreases-and_expr l = max (the_size l.a.now) (the_size l.b.now) + max (the_size l.a.now) (the_size l.b.now) + 3
-
-abbrev pub decreases-or_expr : goal.decreases-or_expr
-decreases-or_expr l = max (the_size l.a.now) (the_size l.b.now) + max (the_size l.a.now) (the_size l.b.now) + 3
-
-abbrev pub decreases-cons_expr : goal.decreases-cons_expr
-decreases-cons_expr l = max (the_size l.a.now) (the_size l.b.now) + max (the_size l.a.now) (the_size l.b.now) + 3
+abbrev pub decreases-joined_expr : goal.decreases-joined_expr
+decreases-joined_expr l = max (the_size l.a.now) (the_size l.b.now) + max (the_size l.a.now) (the_size l.b.now) + 3
 
 abbrev pub decreases-let_expr : goal.decreases-let_expr
 decreases-let_expr l = max (the_size l.a.now) (the_size l.b.now) + max (the_size l.a.now) (the_size l.b.now) + 3

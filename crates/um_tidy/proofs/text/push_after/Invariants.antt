@@ -6,5 +6,5 @@ use Rattle.um_tidy.proofs.text.push_after.Given as goal
 abbrev pub invariant-loop-k : goal.invariant-loop-k
 invariant-loop-k l = record {
   in_order : AreInOrder l.last.end (drop l.k l.tokens) (length l.bytes);
-  added : l.text.items ++ tidied_after l.bytes l.stand l.last (drop l.k l.tokens) ≡ l.fn.text.items ++ tidied_after l.bytes l.fn.stand l.fn.token l.tokens;
+  added : l.text.items ++ tidied_after l.bytes l.stand l.last (drop l.k l.tokens) ≡ l.fn.text.items ++ tidied_after l.bytes l.fn.stand l.fn.first (drop 1 l.tokens);
 }

@@ -28,7 +28,7 @@ loop-token-preserved c =
     let tokens = c.args.tokens.now in
     let x = c.token-item.result in
     let same : get_or tokens c.loop-token.token-index x ≡ x = search (rules, c.token-item.is) in
-    c.in_ok-take_copy.ensures
+    c.in-Ok.ensures
     ∙ next_reached tokens c.requires.begins c.loop-token.token-index x (program_state c.loop-token.reader) (omega (arith, c.loop-token-test.true)) same c.loop-token.invariant
 
 pub returns : goal.returns

@@ -1,0 +1,2 @@
+mod SolvingSteps
+mod SolvedTypes
