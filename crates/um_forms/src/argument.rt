@@ -68,7 +68,8 @@ fn open_call(
     arguments: Operands,
     room: Box<RawExpr>,
 ) -> Result<Box<RawExpr>, AllocError>
-    ensures { OnOk result (frames_of frames.new ≡ in_argument at name (operand_exprs arguments) ∷ frames_of frames.old) }
+    ensures { OnOk result (frames_of frames.new
+        ≡ in_argument at name (operand_exprs arguments) ∷ frames_of frames.old) }
 {
     match frames.push(Frame::InArgument(at, name, arguments)) {
         Ok(()) => Ok(room),

@@ -421,8 +421,8 @@ fn step_moved(
     }
 }
 
-/// One token more, which stays as it was if it is refused. What stands in focus goes on in its place. Brackets, of which
-/// there may be many, move as little as can be.
+/// One token more, which stays as it was if it is refused. What stands in focus goes on in its place. Brackets, of
+/// which there may be many, move as little as can be.
 #[inline(always)]
 pub fn step(
     alloc: Global,
