@@ -94,9 +94,16 @@ class Service(BaseHTTPRequestHandler):
             self.close_connection = True
             raise Wrong("Content-Length must say how long the request is")
         if int(length) > self.most_bytes:
-            self.close_connection = True    # the rest isn't read
+            self.close_connection = True
+            self._pass_over(int(length))
             raise Wrong(413, {"error": f"a request has at most {self.most_bytes} bytes"})
         return self.rfile.read(int(length))
+
+    def _pass_over(self, length: int) -> None:
+        """Reads away a request that is too long, up to a bound: while it sends, its sender may miss the answer."""
+        left = min(length, 16 * self.most_bytes)
+        while left > 0 and (piece := self.rfile.read(min(left, 1 << 16))):
+            left -= len(piece)
 
     @contextmanager
     def _place(self) -> Iterator[None]:
