@@ -124,7 +124,7 @@ def test_the_service_refuses_other_requests(service, path, body, status):
 
 
 def test_the_service_refuses_long_requests(service):
-    assert service("/types", {"text": "/" * (1 << 20)})[0] == 413
+    assert service("/types", {"text": "/" * (1 << 22)})[0] == 413
     assert service("/types", {"text": "let k = 1"})[0] == 200
 
 
