@@ -1,6 +1,6 @@
 /*
- * The calls of umc.h over the proved calls of crates/um_page and crates/um_embed. Nothing here is proved: it hands on
- * what it is handed, and lets one thread at a time use an open program.
+ * The calls of umc.h over the proved calls of crates/um_embed. Nothing here is proved: it hands on what it is handed,
+ * and lets one thread at a time use an open program.
  */
 #include "umc.h"
 
@@ -19,7 +19,7 @@ struct held {
 };
 
 /*
- * The proved calls: their crates say what each gives. Words stand in one text, a zero byte between each two. The answer
+ * The proved calls: their crate says what each gives. Words stand in one text, a zero byte between each two. The answer
  * is copied into the room if it fits, and its size is told in any case.
  */
 byte um_page_serve(const byte *words, size_t words_size, const byte *text, size_t text_size, byte *answer, size_t room,

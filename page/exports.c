@@ -1,7 +1,7 @@
 /* What the page calls of the module. Nothing here is proved: it hands on what the page hands in. */
 #include "heap.h"
 
-/* The proved call: crates/um_page says what it gives. */
+/* The proved call: crates/um_embed says what it gives. */
 int um_page_serve(const byte *words, size words_size, const byte *text, size text_size, byte *answer, size room,
                   size *answer_size);
 

@@ -1,8 +1,7 @@
-"""What the tests of this folder share: the program, the static libraries, and the libraries that are made of them.
+"""What the tests of this folder share: the program, the static library, and the libraries that are made of it.
 
-The tests ask the program that UMC names, otherwise the proved program of the checkout. The static libraries are those
-that UMC_STATIC names, as FILE:FILE, otherwise the proved ones. None is built here; what needs one that isn't there is
-skipped.
+The tests ask the program that UMC names, otherwise the proved program of the checkout. The static library is the one
+that UMC_STATIC names, otherwise the proved one. None is built here; what needs one that isn't there is skipped.
 """
 import os
 import shutil
@@ -14,8 +13,7 @@ import pytest
 
 HOME = Path(__file__).resolve().parents[2]
 PROGRAM = Path(os.environ.get("UMC") or HOME / "crates/umc/out/umc").absolute()
-PROVED = [HOME / "crates" / name / "out" / f"lib{name}.a" for name in ("um_page", "um_embed")]
-STATIC = [Path(file).absolute() for file in os.environ.get("UMC_STATIC", "").split(":") if file] or PROVED
+STATIC = Path(os.environ.get("UMC_STATIC") or HOME / "crates/um_embed/out/libum_embed.a").absolute()
 VERSION = (HOME / "VERSION").read_text().strip()
 DEBIAN = "/usr/bin/python3"
 SONAME = "libumc.so.1"
@@ -43,17 +41,15 @@ def done(*words: str | Path, status: int = 0, **how) -> str:
 
 @pytest.fixture(scope="session")
 def libraries(tmp_path_factory: pytest.TempPathFactory) -> Path:
-    """A folder with libumc.a and libumc.so.1, made of the static libraries by embed/Makefile."""
-    for file in STATIC:
-        if not file.is_file():
-            pytest.skip(f"there is no static library {file}: embed/build makes it, UMC_STATIC names another")
+    """A folder with libumc.a and libumc.so.1, made of the static library by embed/Makefile."""
+    if not STATIC.is_file():
+        pytest.skip(f"there is no static library {STATIC}: embed/build makes it, UMC_STATIC names another")
     need("make", "cc", "ld", "objcopy", "ar")
     folder = tmp_path_factory.mktemp("made")
     for name in ("VERSION", "embed/Makefile", "embed/umc.h", "embed/umc.c", "embed/heap.c"):
         (folder / name).parent.mkdir(exist_ok=True)
         shutil.copy(HOME / name, folder / name)
-    named = " ".join(map(str, STATIC))
-    done("make", "-s", "-C", folder / "embed", f"STATIC={named}", "CFLAGS=-O2 -g -Wall -Wextra -Werror")
+    done("make", "-s", "-C", folder / "embed", f"STATIC={STATIC}", "CFLAGS=-O2 -g -Wall -Wextra -Werror")
     return folder / "embed/out"
 
 

@@ -18,9 +18,9 @@ def test_answers_under_the_checkers(libraries, tmp_path, checker):
     """The calls of umc.h are compiled with the checker too, so that it sees their accesses."""
     flags = [] if checker == "none" else [f"-fsanitize={checker}", "-fno-sanitize-recover=all"]
     sources = [CHECK, HOME / "embed/umc.c", HOME / "embed/heap.c"] if flags else [CHECK]
-    library = STATIC if flags else [libraries / "libumc.a"]
+    library = STATIC if flags else libraries / "libumc.a"
     made = tmp_path / "check"
-    done("cc", *WARNINGS, *flags, f'-DUMC_VERSION="{VERSION}"', f"-I{HOME}/embed", *sources, *library, WRAP, "-pthread",
+    done("cc", *WARNINGS, *flags, f'-DUMC_VERSION="{VERSION}"', f"-I{HOME}/embed", *sources, library, WRAP, "-pthread",
          "-o", made)
     said = done(made)
     assert said.splitlines()[-1] == "all well"

@@ -1,4 +1,7 @@
 mod Values
 mod Parts
+mod LineWords
+mod Calm
+mod Examples
 mod RunWords
 mod Handed

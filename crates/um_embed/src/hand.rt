@@ -25,7 +25,7 @@ pub(crate) fn hand(answer: Answer, into: &mut [u8], size: &mut usize) -> u8
 }
 
 /// Copies the bytes into the front of `into`, if it has room for all of them.
-fn copy_to_front(bytes: &[u8], into: &mut [u8])
+pub(crate) fn copy_to_front(bytes: &[u8], into: &mut [u8])
     ensures { BeginsWith bytes.now into.old into.new }
 {
     if bytes.len() <= into.len() {

@@ -1,4 +1,4 @@
-// The words that the host hands in.
+// The words of a call that the host hands in.
 ghost use Rattle.std.specs.Prelude.{◌≡◌, ◌<◌, ◌++◌, ◌∷◌, [], IfOk, OnOk, length, map, string_bytes};
 ghost use Rattle.um_embed.specs.Embedded.{words_between};
 

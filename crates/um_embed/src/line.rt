@@ -1,14 +1,14 @@
-// The words that the host hands in.
-ghost use Rattle.std.specs.Prelude.{◌≡◌, ◌==◌, IfOk};
-ghost use Rattle.std.specs.List.{slice_split};
-ghost use Rattle.um_page.specs.Page.{words_in};
+// The words of a command line that the host hands in.
+ghost use Rattle.std.specs.Prelude.{◌≡◌, IfOk};
+ghost use Rattle.um_embed.specs.CommandLine.{words_in};
+ghost use Rattle.um_embed.specs.Embedded.{words_between};
 
 use std::alloc::{AllocError, Global};
 use std::str;
 use um_tool::Words;
 
 /// The words in these bytes; if they aren't UTF-8, the one word `?`.
-pub(crate) fn words_of(alloc: Global, bytes: &[u8]) -> Result<Words, AllocError>
+pub(crate) fn words_of_line(alloc: Global, bytes: &[u8]) -> Result<Words, AllocError>
     ensures { IfOk result (λ words. words ≡ words_in bytes.now) }
 {
     match str::from_utf8(bytes) {
@@ -19,13 +19,13 @@ pub(crate) fn words_of(alloc: Global, bytes: &[u8]) -> Result<Words, AllocError>
 
 /// The parts of a text between its zero bytes.
 fn parts_of(alloc: Global, text: &str) -> Result<Words, AllocError>
-    ensures { IfOk result (λ words. words ≡ slice_split (λ b. b == 0) text.now) }
+    ensures { IfOk result (λ words. words ≡ words_between text.now) }
 {
     let mut words = Words::new(alloc);
     let mut rest = text;
-    while let Some((word, behind)) = rest.split_once('\0') {
+    while let Some((word, after)) = rest.split_once('\0') {
         words.push(alloc, word)?;
-        rest = behind;
+        rest = after;
     }
     words.push(alloc, rest)?;
     Ok(words)

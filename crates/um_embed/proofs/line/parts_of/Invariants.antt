@@ -1,14 +1,14 @@
-use Rattle.std.proofs.Common.{◌≡◌, ◌==◌, ◌++◌, length}
+use Rattle.std.proofs.Common.{◌≡◌, ◌++◌, length}
 use denote.Text.{Utf8}
 use denote.Shadow.{shadow}
-use Rattle.std.specs.List.{slice_split}
-use Rattle.um_page.proofs.words.parts_of.Given as goal
+use Rattle.um_embed.specs.Embedded.{words_between}
+use Rattle.um_embed.proofs.line.parts_of.Given as goal
 
 -- the words so far, and the parts of the rest, are the parts of the text
 abbrev pub invariant-loop-word : goal.invariant-loop-word
 invariant-loop-word l = record {
   text : shadow (Utf8 l.rest);
-  parts : slice_split (λ b. b == 0) l.text ≡ l.words ++ slice_split (λ b. b == 0) l.rest;
+  parts : words_between l.text ≡ l.words ++ words_between l.rest;
 }
 
 abbrev pub decreases-loop-word : goal.decreases-loop-word

@@ -3,7 +3,7 @@ ghost use Rattle.std.specs.Prelude.{◌≡◌, ◌≤◌, [], Some, OnOk, OnErr,
 ghost use Rattle.std.specs.Io.KnownBytes.{WriteAppends};
 ghost use Rattle.um_wire.specs.Faults.{Rose};
 ghost use Rattle.um_wire.specs.Bytes.{TakesSome};
-ghost use Rattle.um_page.specs.Kept.{KeptState};
+ghost use Rattle.um_embed.specs.Kept.{KeptState};
 
 use std::alloc::Global;
 use std::marker::Model;

@@ -1,7 +1,7 @@
 use Rattle.std.proofs.Common.{◌∙◌, subst, sym, ltb-false}
 use Rattle.um_tool.specs.Served.{IsComplete}
-use Rattle.um_page.proofs.Calm.{calm, undisturbed}
-use Rattle.um_page.proofs.run.run_on.Goals as goal
+use Rattle.um_embed.proofs.Calm.{calm, undisturbed}
+use Rattle.um_embed.proofs.run.run_on.Goals as goal
 
 pub returns-clause-complete : goal.returns-clause-complete
 returns-clause-complete c = λ complete.

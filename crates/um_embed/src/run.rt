@@ -2,10 +2,10 @@
 ghost use Rattle.std.specs.Prelude.{◌≡◌, ◌≢◌, IfOk, false};
 ghost use Rattle.um_tool.specs.Answer.{Answer};
 ghost use Rattle.um_tool.specs.Served.{IsComplete};
-ghost use Rattle.um_page.specs.Page.{words_in};
+ghost use Rattle.um_embed.specs.CommandLine.{words_in};
 
 use crate::kept::Kept;
-use crate::words::words_of;
+use crate::line::words_of_line;
 use std::alloc::{AllocError, Global};
 use um_tool::{Status, serve};
 use um_wire::QuietSource;
@@ -25,7 +25,7 @@ pub(crate) fn run_on(alloc: Global, words: &[u8], text: &[u8]) -> Result<Run, Al
     ensures complete { IfOk result (λ run.
         IsComplete (words_in words.now) text.now → run.status ≡ Status.Done) }
 {
-    let words = words_of(alloc, words)?;
+    let words = words_of_line(alloc, words)?;
     let mut source = QuietSource::new(Vec::from_slice(alloc, text)?);
     let mut sink = Kept::new(alloc);
     let status = serve(alloc, &words, &mut source, &mut sink);

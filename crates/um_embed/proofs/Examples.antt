@@ -1,8 +1,9 @@
 -- What the definitions come to on small bytes.
 use Rattle.std.proofs.Common.{◌≡◌, refl, sym, List, ℕ, [], ◌∷◌, codes}
 use Rattle.std.specs.Str.{IsUtf8}
-use Rattle.um_page.specs.Page.{words_in, BeginsWith}
-use Rattle.um_page.proofs.Parts.{words_of_text, words_of_other}
+use Rattle.um_embed.specs.CommandLine.{words_in}
+use Rattle.um_embed.specs.Embedded.{BeginsWith}
+use Rattle.um_embed.proofs.LineWords.{words_of_text, words_of_other}
 
 abbrev line : List ℕ
 line = 102 ∷ 109 ∷ 116 ∷ 0 ∷ 0 ∷ 49 ∷ []
@@ -17,6 +18,6 @@ none is = sym (words_of_text [] is)
 unreadable : (bytes : List ℕ) → ¬ (IsUtf8 bytes) → words_in bytes ≡ codes "?" ∷ []
 unreadable bytes is_not = sym (words_of_other bytes is_not)
 
--- what stands behind the answer stays
+-- what stands after the answer stays
 front : BeginsWith (1 ∷ 2 ∷ []) (7 ∷ 8 ∷ 9 ∷ []) (1 ∷ 2 ∷ 9 ∷ [])
 front _ = refl
