@@ -4,6 +4,7 @@ pub mod TypingNodes
 pub mod TextOrder
 pub mod Annotated
 pub mod Answers
-pub mod Placing
 -- What the definitions come to: statements, each proved as the contract of a function of src/laws.rt.
 pub mod Laws
+-- What mirrors the code.
+pub mod Placing

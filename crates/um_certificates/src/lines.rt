@@ -93,12 +93,14 @@ fn push_part(text: &mut Vec<u8>, part: Part) -> Result<(), AllocError>
     push_integer(text, part.times)
 }
 
+/// Puts a number in base 10 after a text.
 pub fn push_number(text: &mut Vec<u8>, n: usize) -> Result<(), AllocError>
     ensures { OnOk result (text.new.items ≡ text.old.items ++ decimal n) }
 {
     text.extend_from_slice(itoa::Buffer::new().format(n).as_bytes())
 }
 
+/// Puts an integer in base 10 after a text.
 pub fn push_integer(text: &mut Vec<u8>, n: i64) -> Result<(), AllocError>
     ensures { OnOk result (text.new.items ≡ text.old.items ++ signed_decimal n) }
 {

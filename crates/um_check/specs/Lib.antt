@@ -6,6 +6,6 @@ pub mod Existence
 pub mod Tidy
 -- What these definitions come to: statements, each proved as the contract of a function of src/laws.rt.
 pub mod Laws
--- The code's.
+-- What mirrors the code.
 pub mod PartCode
 pub mod Tests

@@ -2,7 +2,7 @@
 ghost use Rattle.std.specs.Prelude.{◌≡◌, ◌+◌, ◌<◌};
 ghost use Rattle.um_frac.specs.Gcd.{gcd};
 
-// The greatest common divisor of two numbers of 64 bits.
+/// The greatest common divisor of two numbers of 64 bits.
 pub fn common_divisor(a: u64, b: u64) -> u64
     ensures value { result ≡ gcd a b }
     ensures positive { 0 < a + b → 0 < result }
@@ -17,7 +17,7 @@ pub fn common_divisor(a: u64, b: u64) -> u64
     x
 }
 
-// The greatest common divisor of two numbers of 128 bits. It divides 128-bit numbers only while they need it.
+/// The greatest common divisor of two numbers of 128 bits. It divides 128-bit numbers only while they need it.
 pub fn wide_common_divisor(a: u128, b: u128) -> u128
     ensures value { result ≡ gcd a b }
     ensures positive { 0 < a + b → 0 < result }

@@ -8,7 +8,7 @@ pub mod TwinRuns
 pub mod Stops
 -- What these definitions come to: statements, each proved as the contract of a function of src/laws.rt.
 pub mod Laws
--- The code's.
+-- What mirrors the code.
 pub mod SizesCode
 pub mod PassedNumbers
 pub mod Spelling

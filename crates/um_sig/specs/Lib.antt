@@ -7,7 +7,7 @@ pub mod SignatureNames
 pub mod Reading
 -- What these definitions come to: statements, each proved as the contract of a function of src/laws.rt.
 pub mod Laws
--- The code's.
+-- What mirrors the code.
 pub mod Steps
 pub mod ReadingSteps
 pub mod Heads

@@ -5,6 +5,6 @@ pub mod NumberTexts
 pub mod NameTexts
 pub mod ScaleWords
 pub mod BaseSizes
--- The code's.
+-- What mirrors the code.
 pub mod Adding
 pub mod Setting

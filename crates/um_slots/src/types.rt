@@ -28,7 +28,7 @@ pub fn copied_units(alloc: Global, units: &[Unit]) -> Result<Units, AllocError>
 }
 
 /// An equal type. `AllocError` is the one error.
-// Most types are those of numbers. These are copied in line, and only others by a call.
+/// Most types are those of numbers. These are copied in line, and only others by a call.
 #[inline(always)]
 pub fn copied(alloc: Global, ty: &Ty) -> Result<Ty, AllocError>
     ensures same { IfOk result (λ t. type_tree t ≡ type_tree ty.now) }

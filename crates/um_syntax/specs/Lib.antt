@@ -15,6 +15,6 @@ pub mod Machine
 pub mod Scanning
 pub mod Decoding
 pub mod Feeding
--- Blocks of tokens; tokens that follow one another.
+-- Blocks of tokens, and tokens that follow one another, mirror the code too.
 pub mod Blocks
 pub mod Order

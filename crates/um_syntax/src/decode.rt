@@ -29,7 +29,7 @@ pub fn char_len(first: u8) -> usize
     }
 }
 
-// What the bytes are. There are some, and no more than their first byte asks for.
+/// What the bytes are. There are some, and no more than their first byte asks for.
 pub fn decode_char(bytes: &[u8]) -> Decoded
     requires some { 0 < length bytes.now }
     requires one { 1 < length bytes.now → length bytes.now ≤ char_len (slice_index bytes.now 0) }

@@ -33,7 +33,7 @@ pub enum Part {
 }
 
 impl Part {
-    // The part once a digit has been read.
+    /// The part once a digit has been read.
     pub fn after_digit(self) -> Part
         ensures { result ≡ part_after_digit self }
     {
@@ -44,7 +44,7 @@ impl Part {
         }
     }
 
-    // Whether the text up to the last digit is digits alone.
+    /// Whether the text up to the last digit is digits alone.
     pub fn is_whole(self) -> bool
         ensures { result ≡ is_whole_part self }
     {
@@ -54,7 +54,7 @@ impl Part {
         }
     }
 
-    // Whether the character belongs to the number's text.
+    /// Whether the character belongs to the number's text.
     pub fn takes(self, c: char) -> bool
         ensures { result ≡ part_takes self c }
     {
@@ -100,7 +100,7 @@ fn count_up(count: u32) -> u32
 }
 
 impl Figures {
-    // The figures of the first digit.
+    /// The figures of the first digit.
     pub fn new(digit: u32) -> Figures
         requires { digit ≤ 9 }
         ensures value { result ≡ first_figures digit }
@@ -113,7 +113,7 @@ impl Figures {
         }
     }
 
-    // The figures with one more digit, after `part` was read.
+    /// The figures with one more digit, after `part` was read.
     pub fn with(self, part: Part, digit: u32) -> Figures
         requires { digit ≤ 9 }
         ensures value { result ≡ more_figures part self digit }
@@ -155,7 +155,7 @@ impl Figures {
         }
     }
 
-    // The kind of the number's token, or `None` if it breaks its rule.
+    /// The kind of the number's token, or `None` if it breaks its rule.
     pub fn kind(self, power: bool, part: Part) -> Option<Kind>
         requires { FiguresFit self }
         ensures { result ≡ figures_kind power part self }
@@ -181,7 +181,7 @@ pub struct NumberText {
 }
 
 impl NumberText {
-    // The number's text at the front of bytes that begin with a digit.
+    /// The number's text at the front of bytes that begin with a digit.
     pub fn at_front(bytes: &[u8]) -> NumberText
         requires some { 0 < length bytes.now }
         requires from { 48 ≤ slice_index bytes.now 0 }
@@ -233,7 +233,7 @@ impl NumberText {
         }
     }
 
-    // Whether the text has its last digit, and its end is seen after it.
+    /// Whether the text has its last digit, and its end is seen after it.
     pub fn is_whole(&self) -> bool
         ensures { result ≡ (self.now.end == self.now.len && ends_in_digit (Number 0 0 self.now.part self.now.figures)) }
     {

@@ -57,14 +57,14 @@ static NAME_BYTES: [u8; 256] = *b"\
     ................................\
     ................................";
 
-// Whether a name may start with the character.
+/// Whether a name may start with the character.
 pub fn starts_name(c: char) -> bool
     ensures { result ≡ starts_name c }
 {
     c == '_' || is_xid_start(c)
 }
 
-// Whether the first byte is a character that begins a name.
+/// Whether the first byte is a character that begins a name.
 pub fn begins_name(bytes: &[u8]) -> bool
     ensures { result ≡ begins_name bytes.now }
 {
@@ -82,14 +82,14 @@ fn keeps_name(byte: u8) -> bool
     NAME_BYTES[byte as usize] != b'.'
 }
 
-// Whether the character is white space.
+/// Whether the character is white space.
 pub fn is_space(c: char) -> bool
     ensures { result ≡ is_space c }
 {
     c == ' ' || c == '\t' || c == '\r' || c == '\n'
 }
 
-// Whether the byte is white space, but no line feed.
+/// Whether the byte is white space, but no line feed.
 pub fn is_blank(byte: u8) -> bool
     ensures { result ≡ keeps pending.Free byte }
 {
@@ -103,7 +103,7 @@ fn keeps_comment(byte: u8) -> bool
     byte.is_ascii() && byte != b'\n'
 }
 
-// Whether the first byte is an ASCII character that goes on with no name.
+/// Whether the first byte is an ASCII character that goes on with no name.
 pub fn ends_name(bytes: &[u8]) -> bool
     ensures { result ≡ ends_name bytes.now }
 {
@@ -113,7 +113,7 @@ pub fn ends_name(bytes: &[u8]) -> bool
     }
 }
 
-// Whether the first byte is an ASCII character that goes on with no name and no number.
+/// Whether the first byte is an ASCII character that goes on with no name and no number.
 pub fn ends_number(bytes: &[u8]) -> bool
     ensures { result ≡ ends_number bytes.now }
 {
@@ -123,7 +123,7 @@ pub fn ends_number(bytes: &[u8]) -> bool
     }
 }
 
-// How many bytes at the front are a name that the first of them begins, if its end is seen.
+/// How many bytes at the front are a name that the first of them begins, if its end is seen.
 #[inline(always)]
 pub fn name_len(bytes: &[u8]) -> usize
     requires { begins_name bytes.now ≡ true }
@@ -141,7 +141,7 @@ pub fn name_len(bytes: &[u8]) -> usize
     0
 }
 
-// How many bytes at the front are characters of a comment.
+/// How many bytes at the front are characters of a comment.
 pub fn comment_len(bytes: &[u8]) -> usize
     ensures within { result ≤ length bytes.now }
     ensures kept { AllKept pending.Comment (take result bytes.now) }
@@ -153,7 +153,7 @@ pub fn comment_len(bytes: &[u8]) -> usize
     len
 }
 
-// A number that has begun, with a character that belongs to it.
+/// A number that has begun, with a character that belongs to it.
 pub fn number_with(
     start: u32,
     end: u32,
@@ -185,7 +185,7 @@ pub fn number_with(
 }
 
 impl Pending {
-    // Whether the character belongs to what has begun.
+    /// Whether the character belongs to what has begun.
     pub fn takes(self, c: char) -> bool
         ensures { result ≡ takes self c }
     {
@@ -201,7 +201,7 @@ impl Pending {
         }
     }
 
-    // Whether what has begun is a number that has its last digit.
+    /// Whether what has begun is a number that has its last digit.
     pub fn ends_in_digit(self) -> bool
         ensures { result ≡ ends_in_digit self }
     {

@@ -14,6 +14,7 @@ pub struct Tally {
 }
 
 impl Tally {
+    /// No run.
     pub fn none() -> Tally {
         Tally { runs: 0, agree: 0 }
     }
@@ -26,6 +27,7 @@ impl Tally {
         }
     }
 
+    /// Counts more runs.
     pub fn add(&mut self, more: Tally) {
         self.runs = self.runs.saturating_add(more.runs);
         self.agree = self.agree.saturating_add(more.agree);

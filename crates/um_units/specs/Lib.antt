@@ -6,6 +6,6 @@ pub mod PowerMap
 pub mod Range
 pub mod Variables
 pub mod Solutions
--- The code's.
+-- What mirrors the code.
 pub mod PowerMapCode
 pub mod Wide

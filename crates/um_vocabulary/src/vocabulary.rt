@@ -82,7 +82,7 @@ pub enum Symbol {
     Arrow,
 }
 
-// The reserved word with these letters. Few reserved words have the same number of letters.
+/// The reserved word with these letters. Few reserved words have the same number of letters.
 #[inline(always)]
 pub fn keyword_of(letters: &str) -> Option<Keyword>
     ensures { result ≡ keyword_of letters.now }
@@ -160,7 +160,7 @@ fn of_seven(letters: &str) -> Option<Keyword>
     }
 }
 
-// The symbol of one character.
+/// The symbol of one character.
 #[inline(always)]
 pub fn single_symbol(c: char) -> Option<Symbol>
     ensures { result ≡ single_symbol c }
@@ -189,7 +189,7 @@ pub fn single_symbol(c: char) -> Option<Symbol>
     }
 }
 
-// The symbol of two characters.
+/// The symbol of two characters.
 pub fn double_symbol(a: char, b: char) -> Option<Symbol>
     ensures { result ≡ double_symbol a b }
 {
@@ -205,7 +205,7 @@ pub fn double_symbol(a: char, b: char) -> Option<Symbol>
     }
 }
 
-// The symbol that two characters begin with, and how many characters it has. There is none where a comment begins.
+/// The symbol that two characters begin with, and how many characters it has. There is none where a comment begins.
 #[inline(always)]
 pub fn front_symbol(first: char, second: char) -> Option<(Symbol, usize)>
     ensures { result ≡ front_symbol first second }
@@ -242,7 +242,7 @@ pub fn front_symbol(first: char, second: char) -> Option<(Symbol, usize)>
     }
 }
 
-// Whether the two characters begin a comment.
+/// Whether the two characters begin a comment.
 pub fn are_slashes(a: char, b: char) -> bool
     ensures { result ≡ (a == 47 && b == 47) }
 {
