@@ -45,7 +45,8 @@ export COMPLETE
 
 help:
 	@sed -n 's/^#  *\(make\)/\1/p' Makefile
-	@echo 'These may be named: PREFIX BINDIR LIBDIR INCLUDEDIR DATADIR MANDIR DOCDIR ZSHDIR PYTHONDIR PYTHON DESTDIR PROGRAM LIBRARIES'
+	@echo 'These may be named: PREFIX BINDIR LIBDIR INCLUDEDIR DATADIR MANDIR DOCDIR ZSHDIR PYTHONDIR PYTHON DESTDIR' \
+		'PROGRAM LIBRARIES'
 
 install: install-program install-libraries install-python install-data
 

@@ -1,7 +1,8 @@
 """The texts that programs are measured on, each made for a size."""
 import os
 import re
-from collections import namedtuple
+from collections.abc import Callable
+from typing import NamedTuple
 
 VEHICLE = os.path.join(os.path.dirname(os.path.abspath(__file__)), "..", "examples", "vehicle.um")
 DECLARED = re.compile(r"(?:type|let rec|let) ([A-Za-z]+)|[{;] ([a-z]+):")
@@ -19,7 +20,7 @@ let higher{0} (h: num<m>) (t: num<s>) = 1.50<m> + h < 9.8<m/s^2> * t * t / 2
 """
 
 
-def copies(count):
+def copies(count: int) -> str:
     """The vehicle's model so many times, each with names of its own."""
     with open(VEHICLE) as file:
         model = file.read()
@@ -38,19 +39,19 @@ def middle_model(lines: int) -> int:
     return lines // MODEL.count("\n") // 2
 
 
-def products(functions):
+def products(functions: int) -> str:
     """Functions of 25 products each, over names of ordinary length."""
     factors = " * ".join(["starting_speed", "elapsed_duration"] * 13)
     head = "let travelled%04d (starting_speed: num<_>) (elapsed_duration: num<_>) = "
     return "".join(head % number + factors + "\n" for number in range(functions))
 
 
-def zeros(slots):
+def zeros(slots: int) -> str:
     """One function with a list of zeros, each with a unit of its own to be found."""
     return "let zeros = [%s]\n" % "; ".join(["0<_>"] * slots)
 
 
-def open_records(records):
+def open_records(records: int) -> tuple[str, str, list[str]]:
     """Records of four open units: their declarations, the `let`s of a body, and their slots in order."""
     units = ["p", "q", "r", "s"]
     text = "type R<%s> = { %s }\n" % (
@@ -60,14 +61,14 @@ def open_records(records):
     return text, "".join("let r%d = open in " % record for record in range(records)), slots
 
 
-def chain(records):
+def chain(records: int) -> str:
     """One function with four slots a record, whose equations each change all slots that were solved before."""
     text, lets, slots = open_records(records)
     equations = "; ".join("%s < %s" % pair for pair in reversed(list(zip(slots, slots[1:]))))
     return text + "let chain = %s[%s]\n" % (lets, equations)
 
 
-def unlike(records):
+def unlike(records: int) -> str:
     """The same, whose first slot is a metre and whose last is a second, so that all equations disagree together."""
     text, lets, slots = open_records(records)
     measures = "[<Measure>] type metre\n[<Measure>] type second\n"
@@ -76,19 +77,19 @@ def unlike(records):
     return measures + text + "let unlike = %s[%s]\n" % (lets, equations)
 
 
-def small(functions):
+def small(functions: int) -> str:
     """Many functions of one line, each of which calls the one before it."""
     text = "[<Measure>] type m\nlet f0 (x: num<_>) = x * 2<m>\n"
     return text + "".join("let f%d (x: num<_>) = f%d x / 3<m>\n" % (k, k - 1) for k in range(1, functions))
 
 
-def parametric(functions):
+def parametric(functions: int) -> str:
     """Functions of one line with a unit parameter each, beside as many measures."""
     line = "[<Measure>] type m%d\nlet f%d<[<Measure>] 'u> (x: num<'u>) = x * 2<m%d>\n"
     return "".join(line % (k, k, k) for k in range(functions))
 
 
-def wide(functions):
+def wide(functions: int) -> str:
     """Records of 32 fields and 4 unit parameters, each with a function of 16 parameters that makes one."""
     units = ["a", "b", "c", "d"]
     parameters = " ".join("(x%d: num<_>)" % k for k in range(16))
@@ -102,60 +103,60 @@ def wide(functions):
     return text
 
 
-def small_and_fault(functions):
+def small_and_fault(functions: int) -> str:
     """Many functions of one line, and a last one that adds a metre to a number without a unit."""
     return small(functions - 1) + "let last (x: num<m>) = f0 x + x\n"
 
 
-def sums_and_fault(functions):
+def sums_and_fault(functions: int) -> str:
     """`sums` with a bracket too many at the end."""
     return sums(functions) + ")\n"
 
 
-def sums(functions):
+def sums(functions: int) -> str:
     """Sums and products of short names and numbers, a token every three bytes or four."""
     terms = " + ".join(["speed * time", "2.5 / length", "(speed - 10)"] * 11)
     head = "let sum%d (speed: num) (time: num) (length: num) = "
     return "".join(head % number + terms + "\n" for number in range(functions))
 
 
-def items(count):
+def items(count: int) -> str:
     """A list of so many numbers."""
     return "let items = [%s]\n" % "; ".join(str(k) for k in range(count))
 
 
-def literals(count):
+def literals(count: int) -> str:
     """A list of literals whose unit is an abbreviation of 100 measures."""
     measures = ["m%d" % k for k in range(100)]
     text = "".join("[<Measure>] type %s\n" % measure for measure in measures)
     return text + "[<Measure>] type A = %s\nlet k = [%s]\n" % (" ".join(measures), "; ".join(["1<A>"] * count))
 
 
-def readings(functions):
+def readings(functions: int) -> str:
     """Functions of 60 literals with written units."""
     literals = "; ".join(["1.5<m>; 2<m>; 37<m>; 0.25<m>; 1200<m>"] * 12)
     text = "[<Measure>] type m\n"
     return text + "".join("let readings%04d = [%s]\n" % (number, literals) for number in range(functions))
 
 
-def nested(units):
+def nested(units: int) -> str:
     """Unit texts in as many brackets as may be."""
     unit = "(" * 399 + "m" + ")" * 399
     return "".join("[<Measure>] type a%d = %s\n" % (k, unit) for k in range(units))
 
 
-def conditions(count):
+def conditions(count: int) -> str:
     """One function of ten nodes a condition."""
     condition = "if x < 1 then x * 2 else y + 3"
     return "let conditions (x: num) (y: num) = [%s]\n" % "; ".join([condition] * count)
 
 
-def calls(_):
+def calls(_: int) -> str:
     """A function that does nothing but call itself and count; the size is its argument."""
     return "let rec fib (n: num) : num = if n < 2 then n else fib (n - 1) + fib (n - 2)\n"
 
 
-def walks(_):
+def walks(_: int) -> str:
     """A list is built and its items are added up; the size is how many it has."""
     return """let rec build (n: num) (l: num list) : num list = if n < 1 then l else build (n - 1) (n :: l)
 let rec total (l: num list) (sum: num) : num = match l with [] -> sum | x :: r -> total r (sum + x)
@@ -163,12 +164,12 @@ let walk (n: num) = total (build n ([] : num list)) 0
 """
 
 
-def comments(lines):
+def comments(lines: int) -> str:
     """Lines of a comment each, and one function."""
     return "".join("// The measurement of line %d, as it was written down.\n" % k for k in range(lines)) + "let k = 1\n"
 
 
-def rows(lines):
+def rows(lines: int) -> str:
     """A program of one function with units, and lines of a call each."""
     text = "[<Measure>] type kg\n[<Measure>] type m\n[<Measure>] type s\n"
     text += "let kinetic (mass: num<kg>) (speed: num<m/s>) = mass * speed * speed / 2\n---\n"
@@ -176,18 +177,18 @@ def rows(lines):
     return text + "".join(call % (k % 97, k % 1000, k % 4001) for k in range(lines))
 
 
-def ocaml_small(functions):
+def ocaml_small(functions: int) -> str:
     """`small` in OCaml, without units."""
     return "let f0 x = x *. 2.\n" + "".join("let f%d x = f%d x /. 3.\n" % (k, k - 1) for k in range(1, functions))
 
 
-def ocaml_products(functions):
+def ocaml_products(functions: int) -> str:
     """`products` in OCaml, without units."""
     return products(functions).replace(" * ", " *. ").replace("(starting_speed: num<_>)", "starting_speed").replace(
         "(elapsed_duration: num<_>)", "elapsed_duration")
 
 
-def ocaml_copies(count):
+def ocaml_copies(count: int) -> str:
     """The vehicle's model in OCaml, without units, so many times."""
     return "".join("""type body{0} = {{ pos{0} : float; vel{0} : float }}
 let rec total{0} l = match l with [] -> 0. | x :: r -> x +. total{0} r
@@ -199,14 +200,14 @@ let move{0} b t = {{ pos{0} = b.pos{0} +. b.vel{0} *. t; vel{0} = b.vel{0} }}
 """.format(k) for k in range(count))
 
 
-def lua_calls(_):
+def lua_calls(_: int) -> str:
     """`calls` in Lua."""
     return """local function fib(n) if n < 2 then return n end return fib(n - 1) + fib(n - 2) end
 print(fib(tonumber(arg[1])))
 """
 
 
-def lua_walks(_):
+def lua_walks(_: int) -> str:
     """`walks` in Lua, with lists of linked tables."""
     return """local function build(n, l) while n >= 1 do l = { n, l } n = n - 1 end return l end
 local function total(l) local sum = 0 while l do sum = sum + l[1] l = l[2] end return sum end
@@ -214,11 +215,24 @@ print(total(build(tonumber(arg[1]), nil)))
 """
 
 
-# What a user has today for a part of the same work: a command, where {file} is the text and {size} the size, the end of
-# the file's name, and the text.
-Rival = namedtuple("Rival", "command suffix text")
+class Rival(NamedTuple):
+    """What a user has today for a part of the same work: a command, where {file} is the text and {size} the size, the
+    end of the file's name, and the text."""
 
-Workload = namedtuple("Workload", "name words text sizes rivals", defaults=((),))
+    command: str
+    suffix: str
+    text: Callable[[int], str]
+
+
+class Workload(NamedTuple):
+    """The name of a text, the words of a command, the text of a size, and a small and a large size."""
+
+    name: str
+    words: str
+    text: Callable[[int], str]
+    sizes: tuple[int, int]
+    rivals: tuple[Rival, ...] = ()
+
 
 # A new command is a line here: its name in the table, the words, where {} stands for the size, the text, and a small
 # and a large size.

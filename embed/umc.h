@@ -50,7 +50,7 @@ void umc_free(char *answer);
 
 /*
  * A program that was accepted: it stays checked and compiled. Threads may share it: it answers one of them at a time,
- * and the others wait. Threads that shall be answered at once open a program each.
+ * and the others wait. Threads that must be answered at once open a program each.
  */
 typedef struct umc_program umc_program;
 

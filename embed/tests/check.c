@@ -50,9 +50,10 @@ struct question {
     const char *answer;
 };
 
-static const char VEHICLE[] = "[<Measure>] type m\n[<Measure>] type ft\n"
-                              "let rec total (l: num<_> list) : num<_> = match l with [] -> 0<_> | x :: r -> x + total r\n"
-                              "let metres (d: num<ft>) = d * 0.3048<m/ft>\n";
+static const char VEHICLE[] =
+    "[<Measure>] type m\n[<Measure>] type ft\n"
+    "let rec total (l: num<_> list) : num<_> = match l with [] -> 0<_> | x :: r -> x + total r\n"
+    "let metres (d: num<ft>) = d * 0.3048<m/ft>\n";
 static const char WRONG[] = "[<Measure>] type m\nlet f (x: num<m>) = x + 1\n";
 
 static const struct question QUESTIONS[] = {

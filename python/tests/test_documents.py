@@ -1,4 +1,5 @@
-"""The commands `./um ..` that documents show, with what they print."""
+"""The commands `./um ..` that documents show, with what they print, and what EMBEDDING.md shows of `import umc`."""
+import doctest
 import os
 import re
 import subprocess
@@ -48,3 +49,14 @@ def test_a_document_is_true(line, lines, tmp_path):
     found = done.stdout.splitlines()
     # A document may show the first line of a refusal alone, without the explanation.
     assert (found[:1] if is_refusal and len(lines) == 1 else found) == lines
+
+
+@pytest.mark.needs("show")
+def test_the_document_on_python_is_true(monkeypatch):
+    monkeypatch.chdir(HOME)
+    monkeypatch.setenv("UMC_LIBRARY", "none")
+    blocks = (HOME / "docs/EMBEDDING.md").read_text().split("```\n")[1::2]
+    sessions = "\n".join(block for block in blocks if block.startswith(">>>"))
+    found = doctest.DocTestParser().get_doctest(sessions, {}, "EMBEDDING", "docs/EMBEDDING.md", 0)
+    assert found.examples
+    assert doctest.DocTestRunner(verbose=False).run(found).failed == 0

@@ -13,7 +13,6 @@ from umc.errors import DataError, InputError
 from umc.texts import STANDARD_INPUT
 
 BYTE_ORDER_MARK = "\ufeff"
-TSV = "\t"
 
 
 @dataclass(frozen=True)

@@ -5,6 +5,7 @@ import gc
 from collections.abc import Iterator
 from contextlib import AbstractContextManager, nullcontext
 from dataclasses import dataclass, field
+from importlib import import_module
 from typing import Any
 
 from umc import printed, reports
@@ -232,10 +233,13 @@ def _progress(job: Job) -> AbstractContextManager[Any]:
     if stream is None or not stream.isatty():
         return nullcontext()
     try:
-        from tqdm import tqdm
+        tqdm = import_module("tqdm").tqdm
     except ImportError:
         return nullcontext()
-    return tqdm(total=job.data.size(), unit="B", unit_scale=True, file=stream, leave=False)
+    bar: AbstractContextManager[Any] = tqdm(
+        total=job.data.size(), unit="B", unit_scale=True, file=stream, leave=False
+    )
+    return bar
 
 
 # ---- one call on whole columns

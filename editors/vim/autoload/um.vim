@@ -46,8 +46,8 @@ endfunction
 function! um#Names() abort
   let text = join(map(getline(1, "$"), {_, line -> substitute(line, "//.*", "", "")}), "\n")
   let found = []
-  let declared = '\%(\<let\_s\+\%(rec\_s\+\)\=\|\<type\_s\+\|[({;]\_s*\|::\_s*\||\_s*\%(\k\+\_s*::\)\@=\)\zs\%(\d\@!\k\+\)'
-        \ . '\|''\k\+'
+  let declared = '\%(\<let\_s\+\%(rec\_s\+\)\=\|\<type\_s\+\|[({;]\_s*\|::\_s*\||\_s*\%(\k\+\_s*::\)\@=\)'
+        \ . '\zs\%(\d\@!\k\+\)\|''\k\+'
   let at = 0
   while 1
     let [name, start, end] = matchstrpos(text, declared, at)

@@ -1,4 +1,4 @@
-"""The examples and the refusals of the project, with what an editor shall show of them."""
+"""The examples and the refusals of the project, with what an editor is to show of them."""
 from dataclasses import dataclass
 from pathlib import Path
 

@@ -26,7 +26,7 @@ def place(text: str, offset: int) -> list[int]:
 
 
 def step(file: Path, example: Example | None) -> dict[str, Any]:
-    """What Neovim shall do with a file."""
+    """What Neovim is to do with a file."""
     made: dict[str, Any] = {"file": str(file), "format": answer(["tidy"], "")[0] == 0}
     if example:
         made |= {"use": place(example.text, example.text.index(example.use)), "new": example.new}
