@@ -181,6 +181,13 @@ class Page:
                 raise Fault(f"{text} doesn't come in {seconds} seconds")
             time.sleep(0.01)
 
+    def linked(self) -> "Page":
+        """Another page, by a link to what this one shows. A link of before is taken off first."""
+        self.value("history.replaceState(null, '', location.pathname)")
+        self.value("document.getElementById('link').click()")
+        self.wait("location.hash.length > 1")
+        return Page(self.browser, self.value("location.href"))
+
     def key(self, name: str, code: int, letter: str = "", modifiers: int = 0) -> None:
         """Presses a key."""
         words = {"key": name, "windowsVirtualKeyCode": code, "code": name, "modifiers": modifiers}

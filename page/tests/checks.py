@@ -178,9 +178,7 @@ def deep(page: Page, _: str) -> str | None:
 def link(page: Page, _: str) -> str | None:
     page.choose("example", "mechanics: conform kinetic 'num<kg> -> num<m/s> -> num<J>'")
     page.type_into("text", FORGOTTEN + "// gemäß 😀\n")
-    page.value("document.getElementById('link').click()")
-    page.wait("location.hash.length > 1")
-    other = Page(page.browser, page.value("location.href"))
+    other = page.linked()
     for name in ("text", "name", "words"):
         ask = f"document.getElementById('{name}').value"
         expect(other.value(ask), page.value(ask), f"what the link holds of {name}")

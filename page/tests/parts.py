@@ -196,9 +196,7 @@ def calls(page: Page, _: str) -> str | None:
            ["kinetic 2<kg> 3<m/s>", "9<kg m^2/s^2>", "", "", "mean [1<m>; 2<m>]", "3r2<m>", "mean []",
             "error 12: division by zero"], "the calls and their answers")
     page.shot("page-calls-light")
-    page.value("document.getElementById('link').click()")
-    page.wait("location.hash.length > 1")
-    other = Page(page.browser, page.value("location.href"))
+    other = page.linked()
     expect(other.texts("#answer tbody td")[5], "3r2<m>", "an answer after the link")
     other.end()
     page.value("history.replaceState(null, '', location.pathname)")

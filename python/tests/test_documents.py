@@ -60,3 +60,11 @@ def test_the_document_on_python_is_true(monkeypatch):
     found = doctest.DocTestParser().get_doctest(sessions, {}, "EMBEDDING", "docs/EMBEDDING.md", 0)
     assert found.examples
     assert doctest.DocTestRunner(verbose=False).run(found).failed == 0
+
+
+def test_a_script_that_names_its_interpreter_can_be_run():
+    folders = ("examples", "tools", "bench", "embed", "page", "editors", "reference", "python")
+    files = [path for folder in folders for path in (HOME / folder).rglob("*") if path.is_file()]
+    scripts = [path for path in files if "out" not in path.parts and path.read_bytes()[:2] == b"#!"]
+    assert HOME / "examples/embed/service.py" in scripts
+    assert [path for path in scripts if not os.access(path, os.X_OK)] == []
