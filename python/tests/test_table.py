@@ -106,6 +106,7 @@ def test_a_cell_is_refused_with_its_row_and_column(um, cell, why):
     assert (found.status, found.out) == (65, "mass [kg],speed [m/s],kinetic [kg m^2/s^2]\n2,3,9\n1,2,2\n")
 
 
+@pytest.mark.needs("explain")
 def test_a_refused_call_is_told_with_its_row(um, program):
     file = program("[<Measure>] type m\nlet inverse (x: num<m>) = 1 / x")
     data = "x [m]\n1\n0\n2\n9223372036854775808\n4\n"
@@ -115,14 +116,30 @@ def test_a_refused_call_is_told_with_its_row(um, program):
     found = um("table", file, "inverse", "-", "--keep-going", stdin=data)
     assert (found.status, found.out) == (12, "x [m],inverse [/m]\n1,1\n2,0.5\n4,0.25\n")
     assert found.err.splitlines()[2:] == [
-        "<stdin>:5: error 11: argument 1, text at 1", "row 4, column 'x [m]'", "  | 9223372036854775808<m>", "  | ^"]
+        "<stdin>:5: error 11: argument 1, text at 1", "row 4, column 'x [m]'", "  | 9223372036854775808<m>", "  | ^",
+        "a number has at most 38 digits, no denominator 0, and parts that fit 64 bits"]
 
 
+@pytest.mark.needs("explain")
+def test_it_is_told_once_why_rows_are_refused(um):
+    data = "mass [kg],speed [m/s^2]\n2,3\n1,2\n"
+    found = um("table", VEHICLE, "kinetic", "-", "--keep-going", stdin=data)
+    assert (found.status, found.err.splitlines()) == (11, [
+        "<stdin>:2: error 11: units of the arguments", "row 1",
+        "argument 2 of kinetic must have the type of its parameter", "  parameter: num<m/s>", "  argument: num<m/s^2>",
+        "  factor: /s",
+        "<stdin>:3: error 11: units of the arguments", "row 2"])
+    first, second = um("table", VEHICLE, "kinetic", "-", "--keep-going", "--json", stdin=data).objects
+    assert first["explanation"] == found.err.splitlines()[2:6]
+    assert "explanation" not in second
+
+
+@pytest.mark.needs("explain")
 def test_a_unit_that_is_not_there_is_told(um):
     found = um("table", VEHICLE, "kinetic", "-", stdin="mass [lb],speed [m/s]\n2,3\n")
     assert (found.status, found.out) == (11, "mass [lb],speed [m/s],kinetic\n")
     assert found.err.splitlines() == ["<stdin>:2: error 11: argument 1, name at 3", "row 1, column 'mass [lb]'",
-                                      "  | 2<lb>", "  |   ^"]
+                                      "  | 2<lb>", "  |   ^", "unknown name"]
 
 
 @pytest.mark.parametrize("data, why", [

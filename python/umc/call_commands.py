@@ -12,9 +12,12 @@ from umc.program import Answer, Program
 from umc.reports import Report
 from umc.similar import similar
 from umc.texts import Text, gather, read
+from umc.why import no_base_units, no_units, why
 
 NO_UNITS = "-"
 STOPPED = (12, 13)
+TRACED = {**dict.fromkeys(("run", "eval", "steps"), "um trace with the same words says where"),
+          "show": "um trace of the same call says where"}
 IN_ARGUMENT = re.compile(r" at [0-9]+$")
 
 
@@ -74,7 +77,7 @@ def ask(program: Program, words: list[str], text: Text, limits: Limits) -> Answe
 
 def _refuse(args: argparse.Namespace, front: Front, text: Text, words: list[str], given: list[Argument],
             answer: Answer) -> int:
-    report = reports.of_answer(answer.status, answer.output)
+    report = answered = reports.of_answer(answer.status, answer.output)
     if report.status == 1:
         front.program.need(args.command)
         return front.refuse(text, report, notes=unknown_words(words))
@@ -87,10 +90,20 @@ def _refuse(args: argparse.Namespace, front: Front, text: Text, words: list[str]
         if place is not None:
             report = Report(report.status, IN_ARGUMENT.sub("", report.message))
     if report.status == 11 and args.command != "exec":
-        notes += about_function(front.program, text, args.function)
-    if report.status in STOPPED and args.command in ("run", "eval", "show") and front.program.has("trace"):
-        notes.append("um trace with the same words says where")
+        notes += _why(args, front.program, text, answered, given)
+    if report.status in STOPPED and args.command in TRACED and front.program.has("trace"):
+        notes.append(TRACED[args.command])
     return front.refuse(text, report, place, notes)
+
+
+def _why(args: argparse.Namespace, program: Program, text: Text, report: Report, given: list[Argument]) -> list[str]:
+    """Why a call is refused, and the type of its function."""
+    if report.message == "no such base unit":
+        return no_base_units(program, text, args.sizes)
+    if report.message in ("no such unit", "power range of the units"):
+        return no_units(program, text, args.unit)
+    return [*why(program, text, report, [args.function, *(part.text for part in given)]),
+            *about_function(program, text, args.function)]
 
 
 def about_function(program: Program, text: Text, name: str) -> list[str]:

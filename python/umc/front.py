@@ -32,7 +32,7 @@ class Front:
     def write(self, data: bytes) -> None:
         """Writes to standard output, at once."""
         if sys.stdout is None:
-            raise OSError(errno.EBADF, "standard output is closed")
+            raise OSError(errno.EBADF, "it is closed")
         sys.stdout.buffer.write(data)
         sys.stdout.buffer.flush()
 
@@ -50,12 +50,12 @@ class Front:
             return []
         return places.explanation(lines, text, place)
 
-    def refuse_answer(self, text: Text, words: Sequence[str], answer: Answer) -> int:
-        """Tells the refusal of a text, and gives the status."""
+    def refuse_answer(self, text: Text, words: Sequence[str], answer: Answer, notes: Sequence[str] = ()) -> int:
+        """Tells the refusal of a text, with what else is known of it, and gives the status."""
         report = reports.of_answer(answer.status, answer.output)
         if report.status == 1:
             self.program.need(words[0])
-        return self.refuse(text, report, notes=unknown_words(words) if report.status == 1 else [])
+        return self.refuse(text, report, notes=unknown_words(words) if report.status == 1 else notes)
 
     def refuse(self, text: Text, report: Report, place: Place | None = None, notes: Sequence[str] = ()) -> int:
         """Tells a refusal with its place, if it has one, and what else is known of it."""

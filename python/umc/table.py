@@ -18,6 +18,7 @@ from umc.reports import Report
 from umc.results import Results
 from umc.similar import similar
 from umc.texts import STANDARD_INPUT, Text, gather
+from umc.why import why
 
 CHUNK_SIZE = 4 << 20
 # What may stand between cells in place of a comma, as one reads it and as --delimiter names it.
@@ -54,7 +55,7 @@ class Chunk:
 
 @dataclass
 class Job:
-    """What stays the same for all rows, and the status so far."""
+    """What stays the same for all rows, the status so far, and in which ways rows were refused."""
 
     args: argparse.Namespace
     front: Front
@@ -63,6 +64,7 @@ class Job:
     columns: list[Column]
     results: Results
     status: int = 0
+    told: set[str] = field(default_factory=set)
 
     def goes_on(self) -> bool:
         """Whether the rows that follow are looked at."""
@@ -95,7 +97,10 @@ class Job:
         self.front.terminal.say(f"{self._file(row)}: {column}{fault.message}{f' (row {row.number})' if row else ''}")
 
     def refuse(self, row: Row | None, words: list[str], report: Report) -> None:
-        """Tells a call that the program refuses."""
+        """Tells a call that the program refuses. Why is told of the first one that is refused in this way."""
+        way, _, _ = report.message.partition(" at ")
+        cause = [] if way in self.told else why(self.front.program, self.text, report, words)
+        self.told.add(way)
         self.status = self.status or report.status
         notes, where = [], self._where(row)
         if report.argument and len(words) > report.argument[0]:
@@ -104,10 +109,10 @@ class Job:
             notes = Argument(words[number]).excerpt(at) if at is not None else []
         if self.front.json:
             self.front.emit({"status": report.status, "kind": report.kind, "file": self.data.name, **where,
-                             "message": report.message})
+                             "message": report.message, **({"explanation": cause} if cause else {})})
             return
         told = ", ".join(f"{name} {where[name]!r}" for name in ("row", "column") if name in where)
-        self.front.tell(report, None, self._file(row), [*([told] if told else []), *notes])
+        self.front.tell(report, None, self._file(row), [*([told] if told else []), *notes, *cause])
 
     def _where(self, row: Row | None) -> dict[str, Any]:
         return {"row": row.number, "line": row.line} if row else {}
