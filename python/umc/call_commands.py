@@ -99,11 +99,11 @@ def _refuse(args: argparse.Namespace, front: Front, text: Text, words: list[str]
 def _why(args: argparse.Namespace, program: Program, text: Text, report: Report, given: list[Argument]) -> list[str]:
     """Why a call is refused, and the type of its function."""
     if report.message == "no such base unit":
-        return no_base_units(program, text, args.sizes)
+        return no_base_units(program.ask, text.data, args.sizes)
     if report.message in ("no such unit", "power range of the units"):
-        return no_units(program, text, args.unit)
-    return [*why(program, text, report, [args.function, *(part.text for part in given)]),
-            *about_function(program, text, args.function)]
+        return no_units(program.ask, text.data, args.unit)
+    words = [args.function, *(part.text for part in given)]
+    return [*why(program.ask, text.data, report, words), *about_function(program, text, args.function)]
 
 
 def about_function(program: Program, text: Text, name: str) -> list[str]:

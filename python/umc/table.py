@@ -99,7 +99,7 @@ class Job:
     def refuse(self, row: Row | None, words: list[str], report: Report) -> None:
         """Tells a call that the program refuses. Why is told of the first one that is refused in this way."""
         way, _, _ = report.message.partition(" at ")
-        cause = [] if way in self.told else why(self.front.program, self.text, report, words)
+        cause = [] if way in self.told else why(self.front.program.ask, self.text.data, report, words)
         self.told.add(way)
         self.status = self.status or report.status
         notes, where = [], self._where(row)

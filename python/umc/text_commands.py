@@ -52,7 +52,7 @@ def _one(args: argparse.Namespace, front: Front, name: str, answers: list[bytes]
     words = words_of(args)
     answer = front.program.ask(words, text.data)
     if answer.status != 0:
-        notes = no_base_units(front.program, text, args.sizes) if answer.status == 11 else []
+        notes = no_base_units(front.program.ask, text.data, args.sizes) if answer.status == 11 else []
         return front.refuse_answer(text, words, answer, notes)
     output = _own(front, text, answer.output) if getattr(args, "own", False) else answer.output
     if front.json and not args.output:

@@ -1,13 +1,13 @@
 """Why a call is refused: the program is asked to explain a function that makes this call."""
 import os
 import re
-from collections.abc import Sequence
+from collections.abc import Callable, Sequence
 
 from umc import printed, reports
-from umc.program import Program
+from umc.program import Answer
 from umc.reports import Report
-from umc.texts import Text
 
+Ask = Callable[[Sequence[str], bytes], Answer]  # puts words and a text to the program
 UNKNOWN_NAME = "unknown name"
 EXCERPT = 2  # how many lines of an explanation show the place
 SINCE = "since"  # the line before other places, which are places of a text that nobody wrote
@@ -19,7 +19,7 @@ FORMS = {"num": "a number, as 2, 0.5<kg> or -7r2<m/s>", "bool": "true or false",
          "record": "a record with all its fields in order, as { x = 1<m>; y = 2 }"}
 
 
-def why(program: Program, text: Text, report: Report, words: Sequence[str]) -> list[str]:
+def why(ask: Ask, text: bytes, report: Report, words: Sequence[str]) -> list[str]:
     """What is known of the cause of a refused call. The words are the function and its arguments.
 
     An argument may be wrong and yet be an expression, such as `1/3`. Then it is told how an argument is written.
@@ -28,43 +28,43 @@ def why(program: Program, text: Text, report: Report, words: Sequence[str]) -> l
     if report.status != 11 or wrong is None or wrong[1] not in CAUSES:
         return []
     pieces = [f"{words[0]}\n", *(f"({word}\n)\n" for word in words[1:])]  # a comment in an argument ends with its line
-    refused, lines = _explained(program, text, pieces)
+    refused, lines = _explained(ask, text, pieces)
     if refused and refused.status in CAUSES[wrong[1]] and _is_there(refused, pieces, report.argument):
         return [UNKNOWN_NAME, *lines] if refused.message == UNKNOWN_NAME else lines
-    return _form(program, text, report, words[0]) if wrong[1] == "shape" else []
+    return _form(ask, text, report, words[0]) if wrong[1] == "shape" else []
 
 
-def no_units(program: Program, text: Text, units: Sequence[str]) -> list[str]:
+def no_units(ask: Ask, text: bytes, units: Sequence[str]) -> list[str]:
     """Which of the units that `show` was given is refused, and why."""
     for unit in units:
-        refused, lines = _explained(program, text, [unit.partition("=")[2] or f"1<{unit}>"])
+        refused, lines = _explained(ask, text, [unit.partition("=")[2] or f"1<{unit}>"])
         if refused:
             return [f"{unit}: {refused.message}", *lines]
     return []
 
 
-def no_base_units(program: Program, text: Text, sizes: str) -> list[str]:
+def no_base_units(ask: Ask, text: bytes, sizes: str) -> list[str]:
     """Which names of sizes are no base units, and why."""
     told = []
     for name in [part.partition("=")[0] for part in sizes.split(",")]:
-        if program.ask(["rescale", f"{name}=1"], text.data).status == 11:
-            refused, lines = _explained(program, text, [f"1<{name}>"])
+        if ask(["rescale", f"{name}=1"], text).status == 11:
+            refused, lines = _explained(ask, text, [f"1<{name}>"])
             told += [f"{name}: {refused.message}", *lines] if refused else [
                 f"{name} stands for other units, and has no size of its own"]
     return told
 
 
-def _explained(program: Program, text: Text, pieces: Sequence[str]) -> tuple[Report | None, list[str]]:
+def _explained(ask: Ask, text: bytes, pieces: Sequence[str]) -> tuple[Report | None, list[str]]:
     """How one more function, whose body is these pieces, is refused, and what `explain` says of the cause.
 
     The line of the report is counted in the body, from 1.
     """
-    before = text.data if text.data.endswith(b"\n") else text.data + b"\n"
+    before = text if text.endswith(b"\n") else text + b"\n"
     body = os.fsencode("".join(pieces))
     name = b"call"
     while name in before or name in body:
         name += b"_"
-    answer = program.ask(["explain"], before + b"let " + name + b" =\n" + body + b"\n")
+    answer = ask(["explain"], before + b"let " + name + b" =\n" + body + b"\n")
     first, *lines = answer.output.decode("utf-8", "replace").removesuffix("\n").split("\n")
     refused = reports.parse(first)
     if refused is None or refused.line is None:
@@ -83,9 +83,9 @@ def _is_there(refused: Report, pieces: Sequence[str], argument: tuple[int, int |
     return start < line <= start + pieces[argument[0]].count("\n")
 
 
-def _form(program: Program, text: Text, report: Report, function: str) -> list[str]:
+def _form(ask: Ask, text: bytes, report: Report, function: str) -> list[str]:
     """How an argument is written that the parameter takes."""
-    answer = program.ask(["types"], text.data)
+    answer = ask(["types"], text)
     schemes = printed.schemes(answer.output.decode()) if answer.status == 0 else []
     number = report.argument[0] if report.argument else 0
     for scheme in schemes:
