@@ -219,7 +219,8 @@ def test_whole_columns_are_lists(um):
     found = um("table", "examples/mechanics.um", "centre", "-", "--lists", stdin="x [m],w [kg]\n1,1\n3,3\n")
     assert found.out == "centre [m]\n2.5\n"
     found = um("table", VEHICLE, "mean", "-", "--lists", stdin="d [m]\n1\nx\n6\n")
-    assert (found.status, found.err) == (65, "<stdin>:3: column 'd [m]': 'x' isn't a number (row 2)\n")
+    assert (found.status, found.err) == (
+        65, "<stdin>:3: column 'd [m]': 'x' isn't a number such as 2.5, 1.5e3 or 1/3 (row 2)\n")
     found = um("table", VEHICLE, "mean", "-", "--lists", "--keep-going", stdin="d [m]\n1\nx\n6\n")
     assert (found.status, found.out) == (65, "mean [m]\n3.5\n")
     found = um("table", VEHICLE, "mean", "-", "--lists", stdin="d [m]\n")
@@ -241,7 +242,7 @@ def test_results_as_json(um):
         {"status": 0, "row": 2, "line": 3, "text": "3<kg m^2/s^2>",
          "value": {"number": "3", "unit": {"kg": 1, "m": 2, "s": -2}}},
         {"status": 65, "kind": "data", "file": "<stdin>", "row": 3, "line": 4, "column": "mass [kg]",
-         "message": "'x' isn't a number"}]
+         "message": "'x' isn't a number such as 2.5, 1.5e3 or 1/3"}]
     assert found.status == 65
 
 
