@@ -6,7 +6,7 @@ import sys
 
 import pytest
 
-from conftest import HOME, UM, lacks
+from conftest import HOME, UM, VEHICLE, lacks
 
 REFUSALS = {
     "characters": "1:18: error 4: character", "form": "2:1: error 5: syntax",
@@ -174,6 +174,22 @@ def test_bytes_that_are_no_text_are_refused_at_their_place(um, program):
     file = program(b"let k = 1\nlet \xff")
     found = um("types", file)
     assert (found.status, found.err.splitlines()[0]) == (3, f"{file}:2:5: error 3: not UTF-8")
+
+
+@pytest.mark.parametrize("text, last", [
+    ("let gr\u00f6\u00dfe = 1".encode("latin-1"), "save it as UTF-8"),
+    ("let k = 1".encode("utf-16"), "the text is UTF-16; save it as UTF-8"),
+    ("\ufefflet k =\u00a01\r\n", "the character is U+00A0 NO-BREAK SPACE"),
+    ("let k = 1 \u2013 2", "the character is U+2013 EN DASH"), ("let k = 1\0", "the character is U+0000")])
+def test_what_is_not_seen_on_the_screen_is_told(um, program, text, last):
+    file = program(text)
+    assert um("types", file).err.splitlines()[-1] == last
+    tree, = um("types", "--json", "--with", VEHICLE, file).objects
+    assert tree["explanation"][-1] == last
+
+
+def test_a_character_that_is_seen_is_not_told(um, program):
+    assert "U+" not in um("types", program("let k = 5 % 2")).err
 
 
 def test_a_text_that_is_too_long_is_refused(um, program):

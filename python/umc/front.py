@@ -13,6 +13,7 @@ from umc.program import Answer, Program, find
 from umc.reports import Report
 from umc.terminal import BOLD, CYAN, GREEN, RED, Terminal
 from umc.texts import Place, Text
+from umc.unseen import unseen
 
 
 class Front:
@@ -63,6 +64,7 @@ class Front:
         if place is None and report.line is not None and report.column is not None:
             place = text.place(report.line, report.column)
             lines = self.explanation(text, report, place) if report.has_explanation else []
+            lines += unseen(text, report, place)
         self.tell(report, place, text.name, [*lines, *notes])
         return report.status
 
