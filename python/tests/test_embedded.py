@@ -211,7 +211,7 @@ def test_a_row_that_stopped_has_a_place(vehicle, engine):
 def test_a_run_on_a_long_argument_is_refused_as_on_a_short_one(vehicle):
     with pytest.raises(umc.Refused) as caught:
         vehicle.total([9223372036854775807] * 10000)
-    assert (caught.value.status, caught.value.message) == (12, "overflow")
+    assert caught.value.status == 12 and caught.value.message.startswith("overflow")
 
 
 def test_an_error_of_a_file_names_it(engine):
