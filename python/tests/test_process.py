@@ -76,6 +76,14 @@ def test_the_launcher_runs_by_itself_from_any_folder(tmp_path):
         assert (done.returncode, done.stdout, done.stderr) == (0, AREA, "")
 
 
+def test_a_launcher_without_its_modules_says_what_to_do(tmp_path):
+    shutil.copy(UM, tmp_path / "um")
+    done = subprocess.run([sys.executable, tmp_path / "um", "types", HOME / "examples/area.um"], capture_output=True,
+                          text=True, env={name: it for name, it in os.environ.items() if name != "PYTHONPATH"})
+    assert (done.returncode, done.stdout) == (1, "")
+    assert done.stderr.startswith("um: its modules aren't there: ") and done.stderr.count("\n") == 1
+
+
 def test_what_the_program_says_on_standard_error_is_passed_on(um, script):
     found = um("types", "examples/area.um", UMC=str(script("cat > /dev/null; echo notice >&2; echo k : num")))
     assert (found.status, found.out, found.err) == (0, "k : num\n", "notice\n")
