@@ -296,11 +296,31 @@ def test_a_long_argument_where_nothing_takes_it_is_told(um, tmp_path):
     (tmp_path / "list").write_text(LONG)
     found = um("eval", "examples/vehicle.um", "count", f"@{tmp_path}/list")
     assert (found.status, found.out) == (64, "")
-    assert found.err == "um: the words are longer than the system takes; um run takes arguments of any length\n"
+    assert found.err == "um: the words are longer than the system takes; um run takes longer ones\n"
     if lacks("calls"):
         found = um("run", "examples/vehicle.um", "count", f"@{tmp_path}/list")
         assert (found.status, found.out) == (64, "")
         assert "this umc has no command 'calls'" in found.err
+
+
+@pytest.mark.needs("calls")
+def test_an_argument_that_no_command_takes_is_told(um, tmp_path):
+    told = "an argument has at most 1,048,576 bytes, and this one has 1,048,577\n"
+    (tmp_path / "list").write_text("1" * 1048577)
+    found = um("run", "examples/vehicle.um", "count", f"@{tmp_path}/list")
+    assert (found.status, found.err) == (1, f"examples/vehicle.um: error 1: usage\n{told}")
+    (tmp_path / "list").write_text("1" * (1 << 24))
+    found = um("run", "examples/vehicle.um", "count", f"@{tmp_path}/list")
+    assert found.status == 2 and found.err.endswith(told.replace("1,048,577", "16,777,216"))
+    found = um("table", "examples/vehicle.um", "count", "-", "--lists", stdin="n\n" + "1234567\n" * 200000)
+    assert (found.status, found.err.splitlines()[0]) == (1, "<stdin>: error 1: usage")
+    assert found.err.splitlines()[1].startswith("an argument has at most 1,048,576 bytes, ")
+
+
+def test_an_argument_that_is_no_text_is_told(um, tmp_path):
+    (tmp_path / "list").write_bytes(b"[1; \xff]")
+    found = um("run", "examples/vehicle.um", "count", f"@{tmp_path}/list")
+    assert (found.status, found.err) == (1, "examples/vehicle.um: error 1: usage\nan argument isn't UTF-8\n")
 
 
 @pytest.mark.needs("calls")

@@ -12,7 +12,7 @@ from umc.program import Answer, Program
 from umc.reports import Report
 from umc.similar import similar
 from umc.texts import Text, gather, read
-from umc.why import no_base_units, no_units, why
+from umc.why import no_base_units, no_units, why, wrong_word
 
 NO_UNITS = "-"
 STOPPED = (12, 13)
@@ -62,7 +62,7 @@ def ask(program: Program, words: list[str], text: Text, limits: Limits) -> Answe
         return program.ask(words, text.data, limits)
     except WordsTooLong as fault:
         if words[0] != "run":
-            raise WordsTooLong(f"{fault.message}; um run takes arguments of any length") from fault
+            raise WordsTooLong(f"{fault.message}; um run takes longer ones") from fault
         if not program.has("calls"):
             raise WordsTooLong(f"{fault.message}, and this umc has no command 'calls', which would") from fault
     answer = program.ask(["calls", words[1]], source_of_calls(text.data, [line_of_calls(words[2:])]), limits)
@@ -81,7 +81,7 @@ def _refuse(args: argparse.Namespace, front: Front, text: Text, words: list[str]
     if report.status == 1:
         front.program.need(args.command)
         return front.refuse(text, report, notes=unknown_words(words))
-    notes, place = [], None
+    notes, place = wrong_word(words) if report.status == 2 else [], None
     if report.argument is not None:
         number, at = report.argument
         part = given[number - 1]

@@ -14,6 +14,7 @@ from umc.reports import Report
 from umc.terminal import BOLD, CYAN, GREEN, RED, Terminal
 from umc.texts import Place, Text
 from umc.unseen import unseen
+from umc.why import wrong_word
 
 
 class Front:
@@ -117,5 +118,5 @@ def refusal_tree(report: Report, place: Place | None, file: str, lines: Sequence
 def unknown_words(words: Sequence[str]) -> list[str]:
     """What is said after `error 1: usage`."""
     shown = " ".join(words)
-    return [f"umc takes no such words: {shown if len(shown) <= 200 else shown[:200] + ' ..'}",
-            f"um {words[0]} --help says which it takes"]
+    shown = shown if len(shown) <= 200 else shown[:200] + " .."
+    return wrong_word(words) or [f"umc takes no such words: {shown}", f"um {words[0]} --help says which it takes"]

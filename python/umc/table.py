@@ -18,7 +18,7 @@ from umc.reports import Report
 from umc.results import Results
 from umc.similar import similar
 from umc.texts import STANDARD_INPUT, Text, gather
-from umc.why import why
+from umc.why import why, wrong_word
 
 CHUNK_SIZE = 4 << 20
 # What may stand between cells in place of a comma, as one reads it and as --delimiter names it.
@@ -99,7 +99,9 @@ class Job:
     def refuse(self, row: Row | None, words: list[str], report: Report) -> None:
         """Tells a call that the program refuses. Why is told of the first one that is refused in this way."""
         way, _, _ = report.message.partition(" at ")
-        cause = [] if way in self.told else why(self.front.program.ask, self.text.data, report, words)
+        cause = wrong_word(words) if report.status == 1 else []
+        if way not in self.told:
+            cause = cause or why(self.front.program.ask, self.text.data, report, words)
         self.told.add(way)
         self.status = self.status or report.status
         notes, where = [], self._where(row)

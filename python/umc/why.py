@@ -8,6 +8,7 @@ from umc.program import Answer
 from umc.reports import Report
 
 Ask = Callable[[Sequence[str], bytes], Answer]  # puts words and a text to the program
+MOST_OF_WORD = 1 << 20  # bytes
 UNKNOWN_NAME = "unknown name"
 EXCERPT = 2  # how many lines of an explanation show the place
 SINCE = "since"  # the line before other places, which are places of a text that nobody wrote
@@ -32,6 +33,18 @@ def why(ask: Ask, text: bytes, report: Report, words: Sequence[str]) -> list[str
     if refused and refused.status in CAUSES[wrong[1]] and _is_there(refused, pieces, report.argument):
         return [UNKNOWN_NAME, *lines] if refused.message == UNKNOWN_NAME else lines
     return _form(ask, text, report, words[0]) if wrong[1] == "shape" else []
+
+
+def wrong_word(words: Sequence[str]) -> list[str]:
+    """What is said of a word that the program takes in no place: one that is too long, or no UTF-8."""
+    for word in map(os.fsencode, words):
+        if len(word) > MOST_OF_WORD:
+            return [f"an argument has at most {MOST_OF_WORD:,} bytes, and this one has {len(word):,}"]
+        try:
+            word.decode("utf-8")
+        except UnicodeDecodeError:
+            return ["an argument isn't UTF-8"]
+    return []
 
 
 def no_units(ask: Ask, text: bytes, units: Sequence[str]) -> list[str]:

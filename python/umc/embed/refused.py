@@ -8,9 +8,9 @@ from umc.errors import UmError, WordsTooLong
 from umc.program import Answer
 from umc.reports import Report
 from umc.texts import Place, Text
-from umc.why import Ask, why
+from umc.why import Ask, why, wrong_word
 
-CALL, TRAPS = 11, (12, 13)
+WORDS, CALL, TRAPS = (1, 2), 11, (12, 13)
 
 
 class Refused(UmError):
@@ -68,7 +68,7 @@ def of_call(answer: Answer, arguments: list[str], scheme: str | None, ask: Ask |
     what is asked knows it.
     """
     report = reports.of_answer(answer.status, answer.output)
-    lines = []
+    lines = wrong_word(arguments) if report.status in WORDS else []
     if report.argument is not None:
         number, at = report.argument
         lines = Argument(arguments[number - 1]).excerpt(at) if at is not None and number <= len(arguments) else []
