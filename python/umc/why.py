@@ -15,9 +15,10 @@ SINCE = "since"  # the line before other places, which are places of a text that
 # What is wrong with a call, and the statuses of a function that is refused for the same cause.
 CAUSES = {"text": (4,), "shape": (7, 8), "name": (7,), "power range": (10,), "units of the arguments": (9,),
           "wrong number of arguments": (7,)}
-WRONG = re.compile(r"(?:argument [0-9]+, )?([a-z ]+?)(?: at [0-9]+)?")
+WRONG = re.compile(r"(?:argument [0-9]+, |signature, )?([a-z ]+?)(?: at [0-9]+)?")
 FORMS = {"num": "a number, as 2, 0.5<kg> or -7r2<m/s>", "bool": "true or false", "list": "a list, as [1<m>; 2<m>]",
          "record": "a record with all its fields in order, as { x = 1<m>; y = 2 }"}
+SIGNATURE_FORM = "a signature has the types of the parameters and of the result, as num<m> -> num<s> -> num<m/s>"
 
 
 def why(ask: Ask, text: bytes, report: Report, words: Sequence[str]) -> list[str]:
@@ -31,8 +32,20 @@ def why(ask: Ask, text: bytes, report: Report, words: Sequence[str]) -> list[str
     pieces = [f"{words[0]}\n", *(f"({word}\n)\n" for word in words[1:])]  # a comment in an argument ends with its line
     refused, lines = _explained(ask, text, pieces)
     if refused and refused.status in CAUSES[wrong[1]] and _is_there(refused, pieces, report.argument):
-        return [UNKNOWN_NAME, *lines] if refused.message == UNKNOWN_NAME else lines
+        return _told(refused, lines)
     return _form(ask, text, report, words[0]) if wrong[1] == "shape" else []
+
+
+def why_signature(ask: Ask, text: bytes, report: Report, types: str) -> list[str]:
+    """What is known of the cause of a refused signature: its types are explained as those of empty lists."""
+    wrong = WRONG.fullmatch(report.message)
+    if wrong and wrong[1] == "syntax":
+        return [SIGNATURE_FORM]
+    pieces = [f"let _ = ([] : ({part}\n) list) in\n" for part in types.split("->")]
+    refused, lines = _explained(ask, text, [*pieces, "0"])
+    if wrong is None or refused is None or refused.status not in CAUSES.get(wrong[1], ()):
+        return []
+    return _told(refused, lines)
 
 
 def wrong_word(words: Sequence[str]) -> list[str]:
@@ -65,6 +78,11 @@ def no_base_units(ask: Ask, text: bytes, sizes: str) -> list[str]:
             told += [f"{name}: {refused.message}", *lines] if refused else [
                 f"{name} stands for other units, and has no size of its own"]
     return told
+
+
+def _told(refused: Report, lines: list[str]) -> list[str]:
+    """What is told of a cause. Of an unknown name `explain` has nothing to say unless there are similar ones."""
+    return [UNKNOWN_NAME, *lines] if refused.message == UNKNOWN_NAME else lines
 
 
 def _explained(ask: Ask, text: bytes, pieces: Sequence[str]) -> tuple[Report | None, list[str]]:
