@@ -123,6 +123,7 @@ WHY = [
                           "  argument: bool"]),
     (["kinetic", "1/3<kg>", "3<m/s>"], [f"argument 1 is {A_NUMBER}"]),
     (["kinetic", "2<kg>", "(3<m/s>)"], [f"argument 2 is {A_NUMBER}"]),
+    (["metres", "1<ft>) (2"], [f"argument 1 is {A_NUMBER}"]),
     (["mean", "[1, 2]"], ["argument 1 is a list, as [1<m>; 2<m>]"]),
     (["move", "{}", "3<s>"], ["argument 1 is a record with all its fields in order, as { x = 1<m>; y = 2 }"]),
 ]

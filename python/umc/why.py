@@ -108,8 +108,10 @@ def _explained(ask: Ask, text: bytes, pieces: Sequence[str]) -> tuple[Report | N
 def _is_there(refused: Report, pieces: Sequence[str], argument: tuple[int, int | None] | None) -> bool:
     """Whether a refusal is that of the call itself, or stands in this argument, if there is one."""
     line = refused.line or 0
-    if argument is None or line == 1:
+    if argument is None:
         return line >= 1
+    if line == 1:
+        return refused.status == 8  # the shape of an argument is looked at where it is called
     start = sum(piece.count("\n") for piece in pieces[:argument[0]])
     return start < line <= start + pieces[argument[0]].count("\n")
 
