@@ -16,7 +16,11 @@ def unseen(text: Text, report: Report, place: Place) -> list[str]:
     if report.status != 4 or report.message != "character":
         return []
     line = data.decode("utf-8", "replace").split("\n")[place.line - 1]
-    sign = line[place.column - 1:place.column]
+    return unseen_sign(line[place.column - 1:place.column])
+
+
+def unseen_sign(sign: str) -> list[str]:
+    """What is told of a character that no token begins with, if it isn't plainly seen; the empty text is none."""
     if not sign or ord(sign) in SEEN:
         return []
     return [f"the character is U+{ord(sign):04X} {unicodedata.name(sign, '')}".rstrip()]

@@ -6,6 +6,7 @@ from collections.abc import Callable, Sequence
 from umc import printed, reports
 from umc.program import Answer
 from umc.reports import Report
+from umc.unseen import unseen_sign
 
 Ask = Callable[[Sequence[str], bytes], Answer]  # puts words and a text to the program
 MOST_OF_WORD = 1 << 20  # bytes
@@ -18,6 +19,7 @@ CAUSES = {"text": (4,), "shape": (7, 8), "name": (7,), "power range": (10,), "un
 WRONG = re.compile(r"(?:argument [0-9]+, |signature, )?([a-z ]+?)(?: at [0-9]+)?")
 FORMS = {"num": "a number, as 2, 0.5<kg> or -7r2<m/s>", "bool": "true or false", "list": "a list, as [1<m>; 2<m>]",
          "record": "a record with all its fields in order, as { x = 1<m>; y = 2 }"}
+FIELDS = "expected: "  # before the fields of a record
 SIGNATURE_FORM = "a signature has the types of the parameters and of the result, as num<m> -> num<s> -> num<m/s>"
 
 
@@ -32,7 +34,8 @@ def why(ask: Ask, text: bytes, report: Report, words: Sequence[str]) -> list[str
     pieces = [f"{words[0]}\n", *(f"({word}\n)\n" for word in words[1:])]  # a comment in an argument ends with its line
     refused, lines = _explained(ask, text, pieces)
     if refused and refused.status in CAUSES[wrong[1]] and _is_there(refused, pieces, report.argument):
-        return _told(refused, lines)
+        if wrong[1] != "shape" or refused.status == 8 or lines[:1] and lines[0].startswith(FIELDS):
+            return [*_told(refused, lines), *(_sign(report, words) if wrong[1] == "text" else [])]
     return _form(ask, text, report, words[0]) if wrong[1] == "shape" else []
 
 
@@ -83,6 +86,12 @@ def no_base_units(ask: Ask, text: bytes, sizes: str) -> list[str]:
 def _told(refused: Report, lines: list[str]) -> list[str]:
     """What is told of a cause. Of an unknown name `explain` has nothing to say unless there are similar ones."""
     return [UNKNOWN_NAME, *lines] if refused.message == UNKNOWN_NAME else lines
+
+
+def _sign(report: Report, words: Sequence[str]) -> list[str]:
+    """What is told of the character at the place in an argument that a report names."""
+    number, at = report.argument or (0, None)
+    return unseen_sign(words[number][at - 1:at]) if at is not None and number < len(words) else []
 
 
 def _explained(ask: Ask, text: bytes, pieces: Sequence[str]) -> tuple[Report | None, list[str]]:
