@@ -76,6 +76,10 @@ def test_the_launcher_runs_by_itself_from_any_folder(tmp_path):
         assert (done.returncode, done.stdout, done.stderr) == (0, AREA, "")
 
 
+def test_a_file_without_a_name_is_told(um):
+    assert (um("types", "").status, um("types", "").err) == (66, "um: '': No such file or directory\n")
+
+
 def test_a_launcher_without_its_modules_says_what_to_do(tmp_path):
     shutil.copy(UM, tmp_path / "um")
     done = subprocess.run([sys.executable, tmp_path / "um", "types", HOME / "examples/area.um"], capture_output=True,
@@ -229,6 +233,8 @@ def test_an_output_file_that_can_not_be_written_is_told(um, tmp_path):
     found = um("types", "examples/area.um", "-o", "/dev/full")
     assert (found.status, found.err) == (73, "um: /dev/full: No space left on device\n")
     assert um("types", "examples/area.um", "-o", "/dev/null").status == 0
+    found = um("types", "examples/area.um", "-o", "/dev/stdout")
+    assert (found.status, found.out, found.err) == (0, AREA, "")
 
 
 # ---- files that can't be read

@@ -92,7 +92,7 @@ class Front:
         if self.json:
             self.emit({"status": int(error.status), "kind": error.kind, "file": error.file, "message": error.message})
         else:
-            where = f"{error.file}: " if error.file else ""
+            where = f"{error.file or repr('')}: " if error.file is not None else ""
             self.terminal.say(self.terminal.paint("um: ", BOLD) + where + error.message)
         return int(error.status)
 
