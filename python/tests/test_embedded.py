@@ -214,6 +214,17 @@ def test_a_run_on_a_long_argument_is_refused_as_on_a_short_one(vehicle):
     assert caught.value.status == 12 and caught.value.message.startswith("overflow")
 
 
+def test_a_refusal_is_told_also_if_its_cause_is_not_to_be_had(script):
+    stub = script(f'case "$1 $2" in "explain "|"trace 10000000") sleep 1000;; esac; exec "{PROGRAM}" "$@"')
+    limited = umc.Program.read(VEHICLE, engine=umc.Process(stub, limits=umc.Limits(time=2)))
+    with pytest.raises(umc.Refused) as caught:
+        limited.metres(3, unit="m")
+    assert (caught.value.status, caught.value.explanation) == (11, ("metres : num<ft> -> num<m>",))
+    with pytest.raises(umc.Refused) as caught:
+        limited.mean([])
+    assert (caught.value.status, caught.value.message) == (12, "division by zero")
+
+
 def test_an_error_of_a_file_names_it(engine):
     with pytest.raises(umc.Error) as caught:
         umc.Program.read("nowhere.um", engine=engine)

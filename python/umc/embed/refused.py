@@ -1,10 +1,11 @@
 """Refusals as exceptions."""
+from contextlib import suppress
 from dataclasses import replace
 
 from umc import places, reports
 from umc.arguments import Argument
 from umc.embed.engines import Handle, line_of
-from umc.errors import UmError, WordsTooLong
+from umc.errors import UmError
 from umc.program import Answer
 from umc.reports import Report
 from umc.texts import Place, Text
@@ -73,8 +74,9 @@ def of_call(answer: Answer, arguments: list[str], scheme: str | None, ask: Ask |
         number, at = report.argument
         lines = Argument(arguments[number - 1]).excerpt(at) if at is not None and number <= len(arguments) else []
     if report.status == CALL and scheme is not None:
-        cause = why(ask, text, report, [scheme.partition(" : ")[0], *arguments]) if ask else []
-        lines += [*cause, scheme]
+        with suppress(UmError):     # the answer may reach a limit, and the refusal is known
+            lines += why(ask, text, report, [scheme.partition(" : ")[0], *arguments]) if ask else []
+        lines.append(scheme)
     return Refused(report, line_of(answer), None, tuple(lines))
 
 
@@ -82,7 +84,7 @@ def of_trap(handle: Handle, text: Text, words: list[str], refused: Refused) -> R
     """The refusal of a run with the place where it ended, which `trace` knows."""
     try:
         answer = handle.ask(["trace", *words])
-    except WordsTooLong:    # a process takes words of any length for `run` alone
+    except UmError:     # it may reach a limit, and a process takes long words for `run` alone
         return refused
     first, *lines = line_of(answer).split("\n")
     report = reports.parse(first)
