@@ -3,6 +3,7 @@ import csv
 import io
 import os
 import pty
+import shlex
 import signal
 import subprocess
 import sys
@@ -106,16 +107,19 @@ def test_a_cell_is_refused_with_its_row_and_column(um, cell, why):
     assert (found.status, found.out) == (65, "mass [kg],speed [m/s],kinetic [kg m^2/s^2]\n2,3,9\n1,2,2\n")
 
 
+@pytest.mark.needs("trace")
 @pytest.mark.needs("explain")
 def test_a_refused_call_is_told_with_its_row(um, program):
     file = program("[<Measure>] type m\nlet inverse (x: num<m>) = 1 / x")
     data = "x [m]\n1\n0\n2\n9223372036854775808\n4\n"
     found = um("table", file, "inverse", "-", stdin=data)
     assert (found.status, found.out) == (12, "x [m],inverse [/m]\n1,1\n")
-    assert found.err == "<stdin>:3: error 12: division by zero\nrow 2\n"
+    trace = f"um trace {shlex.quote(str(file))} inverse '0<m>'"
+    assert found.err == f"<stdin>:3: error 12: division by zero\nrow 2\n{trace} says where\n"
+    assert "in inverse at 2:29" in um(*shlex.split(trace)[1:]).out
     found = um("table", file, "inverse", "-", "--keep-going", stdin=data)
     assert (found.status, found.out) == (12, "x [m],inverse [/m]\n1,1\n2,0.5\n4,0.25\n")
-    assert found.err.splitlines()[2:] == [
+    assert found.err.splitlines()[3:] == [
         "<stdin>:5: error 11: argument 1, text at 1", "row 4, column 'x [m]'", "  | 9223372036854775808<m>", "  | ^",
         "a number has at most 38 digits, no denominator 0, and parts that fit 64 bits"]
 

@@ -2,6 +2,7 @@
 import argparse
 import csv
 import gc
+import shlex
 from collections.abc import Iterator
 from contextlib import AbstractContextManager, nullcontext
 from dataclasses import dataclass, field
@@ -9,7 +10,7 @@ from typing import Any
 
 from umc import printed, reports
 from umc.arguments import Argument, line_of_calls, source_of_calls
-from umc.call_commands import limits_of
+from umc.call_commands import STOPPED, limits_of
 from umc.cells import CellError, Column, columns, counted, items_of
 from umc.data import DataFile, Row
 from umc.errors import Crashed, DataError, Exit, UsageError
@@ -21,6 +22,7 @@ from umc.texts import STANDARD_INPUT, Text, gather
 from umc.why import why, wrong_word
 
 CHUNK_SIZE = 4 << 20
+LONGEST = 400  # signs of a command that is told
 # What may stand between cells in place of a comma, as one reads it and as --delimiter names it.
 OTHER_DELIMITERS = {"\t": ("tabs stand", "tab"), ";": ("';' stands", "';'"), "|": ("'|' stands", "'|'")}
 
@@ -99,9 +101,7 @@ class Job:
     def refuse(self, row: Row | None, words: list[str], report: Report) -> None:
         """Tells a call that the program refuses. Why is told of the first one that is refused in this way."""
         way, _, _ = report.message.partition(" at ")
-        cause = wrong_word(words) if report.status == 1 else []
-        if way not in self.told:
-            cause = cause or why(self.front.program.ask, self.text.data, report, words)
+        cause = [] if way in self.told else self._why(words, report)
         self.told.add(way)
         self.status = self.status or report.status
         notes, where = [], self._where(row)
@@ -115,6 +115,18 @@ class Job:
             return
         told = ", ".join(f"{name} {where[name]!r}" for name in ("row", "column") if name in where)
         self.front.tell(report, None, self._file(row), [*([told] if told else []), *notes, *cause])
+
+    def _why(self, words: list[str], report: Report) -> list[str]:
+        """What is known of the cause, or the command that knows it."""
+        if report.status == 1:
+            return wrong_word(words)
+        if report.status not in STOPPED:
+            return why(self.front.program.ask, self.text.data, report, words)
+        before = [part for name in self.args.before for part in ("--with", name)]
+        budget = ["--budget", self.args.budget] if report.status == 13 else []
+        command = shlex.join(["um", "trace", *before, *budget, self.args.file, *words])
+        fits = len(command) <= LONGEST and self.args.file != STANDARD_INPUT and self.front.program.has("trace")
+        return [f"{command} says where"] if fits else []
 
     def _where(self, row: Row | None) -> dict[str, Any]:
         return {"row": row.number, "line": row.line} if row else {}
