@@ -141,9 +141,18 @@ def test_it_is_told_once_why_rows_are_refused(um):
 @pytest.mark.needs("explain")
 def test_a_unit_that_is_not_there_is_told(um):
     found = um("table", VEHICLE, "kinetic", "-", stdin="mass [lb],speed [m/s]\n2,3\n")
-    assert (found.status, found.out) == (11, "mass [lb],speed [m/s],kinetic\n")
+    assert (found.status, found.out) == (11, "mass [lb],speed [m/s],kinetic [kg m^2/s^2]\n")
     assert found.err.splitlines() == ["<stdin>:2: error 11: argument 1, name at 3", "row 1, column 'mass [lb]'",
                                       "  | 2<lb>", "  |   ^", "unknown name"]
+
+
+def test_a_table_without_rows_has_the_unit_of_its_results(um, program):
+    assert um("table", VEHICLE, "kinetic", "-", stdin="m [kg],v [m/s]\n").out == "m [kg],v [m/s],kinetic [kg m^2/s^2]\n"
+    file = program("[<Measure>] type m\nlet twice (x: num<_>) = x + x\nlet both (x: num<m>) = [x; x]\n"
+                   "let is_long (x: num<m>) = x > 1<m>\nlet ends (l: num<m> list) = l\nlet k (x: num) = x")
+    for name in ("twice", "both", "is_long", "k"):
+        assert um("table", file, name, "-", "--only-results", stdin="x\n").out == f"{name}\n"
+    assert um("table", file, "ends", "-", "--lists", stdin="x [m]\n").out == "ends [m]\n"
 
 
 @pytest.mark.parametrize("data, why", [

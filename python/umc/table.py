@@ -149,8 +149,10 @@ def run(args: argparse.Namespace, front: Front) -> int:
         return _no_function(args, front, text, list(schemes))
     front.program.need("calls")
     with DataFile(args.data, args.delimiter) as data:
-        every = _columns(args, data, schemes[args.function]["parameters"])
-        with Results(args, front, data.header) as results:
+        scheme = schemes[args.function]
+        every = _columns(args, data, scheme["parameters"])
+        type_text = scheme["text"].partition(" : ")[2].rpartition(" -> ")[2]
+        with Results(args, front, data.header, type_text) as results:
             job = Job(args, front, text, data, every, results)
             (_lists if args.lists else _rows)(job)
     return job.status
