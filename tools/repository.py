@@ -53,8 +53,19 @@ def copy_crates(names: Iterable[str], folder: Path) -> None:
     (folder / ".git").mkdir()  # rt takes the folder with it for the repository's top
 
 
+def file_fault(fault: OSError) -> str:
+    """What is told of a file that can't be opened, or of a program that can't be started."""
+    if fault.filename is None:
+        return str(fault)
+    name = os.fsdecode(fault.filename)
+    return f"{os.path.relpath(name) if Path(name).is_relative_to(Path.cwd()) else name}: {fault.strerror}"
+
+
 def quietly(main: Callable[[], int | None]) -> int:
-    """The status of a tool's main function; 141, as a shell tells it, if its output was closed before it ended."""
+    """The status of a tool's main function; 141, as a shell tells it, if its output was closed before it ended.
+
+    A file or a program that isn't there is told in a line, and the status is 2.
+    """
     try:
         status = main() or 0
         sys.stdout.flush()
@@ -62,3 +73,6 @@ def quietly(main: Callable[[], int | None]) -> int:
     except BrokenPipeError:
         os.dup2(os.open(os.devnull, os.O_WRONLY), sys.stdout.fileno())
         return 141
+    except (FileNotFoundError, PermissionError, IsADirectoryError) as fault:
+        print(f"{Path(sys.argv[0]).name}: {file_fault(fault)}", file=sys.stderr)
+        return 2

@@ -95,7 +95,8 @@ def test_no_program_and_help() -> None:
 def test_text_is_joined_once_each() -> None:
     text = run("--text", "library/stat.um", "library/list.um").stdout
     assert text == joined([LIBRARY / f"{stem}.um" for stem in ("num", "list", "stat")])
-    assert run("--text", "nothing.um").returncode == 2
+    missing = run("--text", "nothing.um")
+    assert (missing.returncode, missing.stderr) == (2, "tools/library: nothing.um: No such file or directory\n")
 
 
 def test_closed_output_is_no_error() -> None:

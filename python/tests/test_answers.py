@@ -159,7 +159,20 @@ def test_a_function_is_held_to_a_type(um):
                                       "kinetic : num<kg> -> num<m/s> -> num<kg m^2/s^2>"]
     found = um("conform", "examples/vehicle.um", "kinetic", "num<kg> -> -> num")
     assert found.err.splitlines() == ["examples/vehicle.um: error 11: signature, syntax at 12",
-                                      "  | num<kg> -> -> num", "  |            ^"]
+                                      "  | num<kg> -> -> num", "  |            ^",
+                                      "a signature has the types of the parameters and of the result, "
+                                      "as num<m> -> num<s> -> num<m/s>"]
+
+
+@pytest.mark.needs("explain")
+@pytest.mark.parametrize("signature, lines", [
+    ("num<kgs> -> num<J>", ["unknown name", "similar: kg"]), ("num<kg> -> num<_>", []),
+    ("num<kg> // to\n-> num<q>", ["unknown name"]), ("num<kg> @", ["no token begins with this character"]),
+    ("num<m^2147483647 m>", ["powers go from -2147483647 to 2147483647"])])
+def test_it_is_told_why_a_signature_is_refused(um, signature, lines):
+    found = um("conform", "examples/vehicle.um", "kinetic", signature)
+    assert found.status == 11
+    assert found.err.splitlines()[3:] == lines
 
 
 def test_a_library_is_held_to_a_file_of_signatures(um, tmp_path):

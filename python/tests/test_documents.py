@@ -40,7 +40,7 @@ def test_documents_show_commands():
 def test_a_document_is_true(line, lines, tmp_path):
     for name in re.findall(r"\./um ([a-z]+)", line):
         need(COMMANDS[name].needs)
-    is_refusal = bool(lines) and re.match(r"[^ ]+:[0-9]+:[0-9]+: error ", lines[0]) is not None
+    is_refusal = bool(lines) and re.match(r"[^ ]+: error ", lines[0]) is not None
     if is_refusal and len(lines) > 1:
         need("explain")
     (tmp_path / "python3").symlink_to(sys.executable)

@@ -111,7 +111,7 @@ def test_quantities_in_other_units(vehicle, engine):
         length.to("s")
     with pytest.raises(umc.Refused) as caught:
         length.to("furlong")
-    assert caught.value.status == 11
+    assert caught.value.status == 11 and "umc_ratio" not in str(caught.value)
     program = umc.Program("let twice (x: num<m>) = x + x", library=["si"], engine=engine)
     assert str(program.twice(2, unit="m").to("ft", digits=4)) == "~13.1234<ft>"
     with pytest.raises(umc.Error, match="no program"):
@@ -175,15 +175,60 @@ def test_a_place_is_told_in_the_text_after_the_library(engine):
     assert str(caught.value.place) == "<text>:2:27"
 
 
-def test_a_refused_call_shows_the_argument_and_the_type(vehicle):
+def test_a_refused_call_shows_the_argument_and_the_type(vehicle, engine):
     with pytest.raises(umc.Refused) as caught:
         vehicle.mean("[1<m>; 2<q>]")
     refused = caught.value
     assert (refused.status, refused.argument, refused.place) == (11, (1, 10), None)
-    assert refused.explanation == ("  | [1<m>; 2<q>]", "  |          ^", "mean : num<'a> list -> num<'a>")
+    cause = ["unknown name"] if engine.has("explain") else []
+    assert refused.explanation == ("  | [1<m>; 2<q>]", "  |          ^", *cause, "mean : num<'a> list -> num<'a>")
     with pytest.raises(umc.Refused) as caught:
         vehicle.metres(1, 2, unit="ft")
     assert caught.value.message == "wrong number of arguments"
+
+
+def test_it_is_told_why_a_call_is_refused(vehicle, engine):
+    if not engine.has("explain"):
+        pytest.skip("this umc has no command 'explain'")
+    cause = ("argument 1 of metres must have the type of its parameter", "  parameter: num<ft>", "  argument: num<m>",
+             "  factor: m/ft", "metres : num<ft> -> num<m>")
+    with pytest.raises(umc.Refused) as caught:
+        vehicle.metres(3, unit="m")
+    assert caught.value.explanation == cause
+    with pytest.raises(umc.Refused) as caught:
+        vehicle.metres.each([(1, "ft"), (2, "m"), (3, "m")])
+    assert (caught.value.row, caught.value.explanation) == (2, cause)
+
+
+def test_a_row_that_stopped_has_a_place(vehicle, engine):
+    if not engine.has("trace"):
+        pytest.skip("this umc has no command 'trace'")
+    with pytest.raises(umc.Refused) as caught:
+        vehicle.mean.each([[1], []])
+    assert (caught.value.row, caught.value.place.line, caught.value.explanation[-1]) == (2, 17, "  right: 0")
+
+
+def test_a_run_on_a_long_argument_is_refused_as_on_a_short_one(vehicle):
+    with pytest.raises(umc.Refused) as caught:
+        vehicle.total([9223372036854775807] * 10000)
+    assert caught.value.status == 12 and caught.value.message.startswith("overflow")
+
+
+def test_a_refusal_is_told_also_if_its_cause_is_not_to_be_had(script):
+    stub = script(f'case "$1 $2" in "explain "|"trace 10000000") sleep 1000;; esac; exec "{PROGRAM}" "$@"')
+    limited = umc.Program.read(VEHICLE, engine=umc.Process(stub, limits=umc.Limits(time=2)))
+    with pytest.raises(umc.Refused) as caught:
+        limited.metres(3, unit="m")
+    assert (caught.value.status, caught.value.explanation) == (11, ("metres : num<ft> -> num<m>",))
+    with pytest.raises(umc.Refused) as caught:
+        limited.mean([])
+    assert (caught.value.status, caught.value.message) == (12, "division by zero")
+
+
+def test_an_error_of_a_file_names_it(engine):
+    with pytest.raises(umc.Error) as caught:
+        umc.Program.read("nowhere.um", engine=engine)
+    assert str(caught.value) == "nowhere.um: No such file or directory"
 
 
 def test_a_trap_and_the_end_of_a_budget(vehicle, engine):

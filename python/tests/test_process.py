@@ -76,6 +76,18 @@ def test_the_launcher_runs_by_itself_from_any_folder(tmp_path):
         assert (done.returncode, done.stdout, done.stderr) == (0, AREA, "")
 
 
+def test_a_file_without_a_name_is_told(um):
+    assert (um("types", "").status, um("types", "").err) == (66, "um: '': No such file or directory\n")
+
+
+def test_a_launcher_without_its_modules_says_what_to_do(tmp_path):
+    shutil.copy(UM, tmp_path / "um")
+    done = subprocess.run([sys.executable, tmp_path / "um", "types", HOME / "examples/area.um"], capture_output=True,
+                          text=True, env={name: it for name, it in os.environ.items() if name != "PYTHONPATH"})
+    assert (done.returncode, done.stdout) == (1, "")
+    assert done.stderr.startswith("um: its modules aren't there: ") and done.stderr.count("\n") == 1
+
+
 def test_what_the_program_says_on_standard_error_is_passed_on(um, script):
     found = um("types", "examples/area.um", UMC=str(script("cat > /dev/null; echo notice >&2; echo k : num")))
     assert (found.status, found.out, found.err) == (0, "k : num\n", "notice\n")
@@ -221,6 +233,8 @@ def test_an_output_file_that_can_not_be_written_is_told(um, tmp_path):
     found = um("types", "examples/area.um", "-o", "/dev/full")
     assert (found.status, found.err) == (73, "um: /dev/full: No space left on device\n")
     assert um("types", "examples/area.um", "-o", "/dev/null").status == 0
+    found = um("types", "examples/area.um", "-o", "/dev/stdout")
+    assert (found.status, found.out, found.err) == (0, AREA, "")
 
 
 # ---- files that can't be read
@@ -288,11 +302,31 @@ def test_a_long_argument_where_nothing_takes_it_is_told(um, tmp_path):
     (tmp_path / "list").write_text(LONG)
     found = um("eval", "examples/vehicle.um", "count", f"@{tmp_path}/list")
     assert (found.status, found.out) == (64, "")
-    assert found.err == "um: the words are longer than the system takes; um run takes arguments of any length\n"
+    assert found.err == "um: the words are longer than the system takes; um run takes longer ones\n"
     if lacks("calls"):
         found = um("run", "examples/vehicle.um", "count", f"@{tmp_path}/list")
         assert (found.status, found.out) == (64, "")
         assert "this umc has no command 'calls'" in found.err
+
+
+@pytest.mark.needs("calls")
+def test_an_argument_that_no_command_takes_is_told(um, tmp_path):
+    told = "an argument has at most 1,048,576 bytes, and this one has 1,048,577\n"
+    (tmp_path / "list").write_text("1" * 1048577)
+    found = um("run", "examples/vehicle.um", "count", f"@{tmp_path}/list")
+    assert (found.status, found.err) == (1, f"examples/vehicle.um: error 1: usage\n{told}")
+    (tmp_path / "list").write_text("1" * (1 << 24))
+    found = um("run", "examples/vehicle.um", "count", f"@{tmp_path}/list")
+    assert found.status == 2 and found.err.endswith(told.replace("1,048,577", "16,777,216"))
+    found = um("table", "examples/vehicle.um", "count", "-", "--lists", stdin="n\n" + "1234567\n" * 200000)
+    assert (found.status, found.err.splitlines()[0]) == (1, "<stdin>: error 1: usage")
+    assert found.err.splitlines()[1].startswith("an argument has at most 1,048,576 bytes, ")
+
+
+def test_an_argument_that_is_no_text_is_told(um, tmp_path):
+    (tmp_path / "list").write_bytes(b"[1; \xff]")
+    found = um("run", "examples/vehicle.um", "count", f"@{tmp_path}/list")
+    assert (found.status, found.err) == (1, "examples/vehicle.um: error 1: usage\nan argument isn't UTF-8\n")
 
 
 @pytest.mark.needs("calls")

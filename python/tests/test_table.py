@@ -3,6 +3,7 @@ import csv
 import io
 import os
 import pty
+import shlex
 import signal
 import subprocess
 import sys
@@ -106,23 +107,52 @@ def test_a_cell_is_refused_with_its_row_and_column(um, cell, why):
     assert (found.status, found.out) == (65, "mass [kg],speed [m/s],kinetic [kg m^2/s^2]\n2,3,9\n1,2,2\n")
 
 
+@pytest.mark.needs("trace")
+@pytest.mark.needs("explain")
 def test_a_refused_call_is_told_with_its_row(um, program):
     file = program("[<Measure>] type m\nlet inverse (x: num<m>) = 1 / x")
     data = "x [m]\n1\n0\n2\n9223372036854775808\n4\n"
     found = um("table", file, "inverse", "-", stdin=data)
     assert (found.status, found.out) == (12, "x [m],inverse [/m]\n1,1\n")
-    assert found.err == "<stdin>:3: error 12: division by zero\nrow 2\n"
+    trace = f"um trace {shlex.quote(str(file))} inverse '0<m>'"
+    assert found.err == f"<stdin>:3: error 12: division by zero\nrow 2\n{trace} says where\n"
+    assert "in inverse at 2:29" in um(*shlex.split(trace)[1:]).out
     found = um("table", file, "inverse", "-", "--keep-going", stdin=data)
     assert (found.status, found.out) == (12, "x [m],inverse [/m]\n1,1\n2,0.5\n4,0.25\n")
-    assert found.err.splitlines()[2:] == [
-        "<stdin>:5: error 11: argument 1, text at 1", "row 4, column 'x [m]'", "  | 9223372036854775808<m>", "  | ^"]
+    assert found.err.splitlines()[3:] == [
+        "<stdin>:5: error 11: argument 1, text at 1", "row 4, column 'x [m]'", "  | 9223372036854775808<m>", "  | ^",
+        "a number has at most 38 digits, no denominator 0, and parts that fit 64 bits"]
 
 
+@pytest.mark.needs("explain")
+def test_it_is_told_once_why_rows_are_refused(um):
+    data = "mass [kg],speed [m/s^2]\n2,3\n1,2\n"
+    found = um("table", VEHICLE, "kinetic", "-", "--keep-going", stdin=data)
+    assert (found.status, found.err.splitlines()) == (11, [
+        "<stdin>:2: error 11: units of the arguments", "row 1",
+        "argument 2 of kinetic must have the type of its parameter", "  parameter: num<m/s>", "  argument: num<m/s^2>",
+        "  factor: /s",
+        "<stdin>:3: error 11: units of the arguments", "row 2"])
+    first, second = um("table", VEHICLE, "kinetic", "-", "--keep-going", "--json", stdin=data).objects
+    assert first["explanation"] == found.err.splitlines()[2:6]
+    assert "explanation" not in second
+
+
+@pytest.mark.needs("explain")
 def test_a_unit_that_is_not_there_is_told(um):
     found = um("table", VEHICLE, "kinetic", "-", stdin="mass [lb],speed [m/s]\n2,3\n")
-    assert (found.status, found.out) == (11, "mass [lb],speed [m/s],kinetic\n")
+    assert (found.status, found.out) == (11, "mass [lb],speed [m/s],kinetic [kg m^2/s^2]\n")
     assert found.err.splitlines() == ["<stdin>:2: error 11: argument 1, name at 3", "row 1, column 'mass [lb]'",
-                                      "  | 2<lb>", "  |   ^"]
+                                      "  | 2<lb>", "  |   ^", "unknown name"]
+
+
+def test_a_table_without_rows_has_the_unit_of_its_results(um, program):
+    assert um("table", VEHICLE, "kinetic", "-", stdin="m [kg],v [m/s]\n").out == "m [kg],v [m/s],kinetic [kg m^2/s^2]\n"
+    file = program("[<Measure>] type m\nlet twice (x: num<_>) = x + x\nlet both (x: num<m>) = [x; x]\n"
+                   "let is_long (x: num<m>) = x > 1<m>\nlet ends (l: num<m> list) = l\nlet k (x: num) = x")
+    for name in ("twice", "both", "is_long", "k"):
+        assert um("table", file, name, "-", "--only-results", stdin="x\n").out == f"{name}\n"
+    assert um("table", file, "ends", "-", "--lists", stdin="x [m]\n").out == "ends [m]\n"
 
 
 @pytest.mark.parametrize("data, why", [
@@ -202,7 +232,8 @@ def test_whole_columns_are_lists(um):
     found = um("table", "examples/mechanics.um", "centre", "-", "--lists", stdin="x [m],w [kg]\n1,1\n3,3\n")
     assert found.out == "centre [m]\n2.5\n"
     found = um("table", VEHICLE, "mean", "-", "--lists", stdin="d [m]\n1\nx\n6\n")
-    assert (found.status, found.err) == (65, "<stdin>:3: column 'd [m]': 'x' isn't a number (row 2)\n")
+    assert (found.status, found.err) == (
+        65, "<stdin>:3: column 'd [m]': 'x' isn't a number such as 2.5, 1.5e3 or 1/3 (row 2)\n")
     found = um("table", VEHICLE, "mean", "-", "--lists", "--keep-going", stdin="d [m]\n1\nx\n6\n")
     assert (found.status, found.out) == (65, "mean [m]\n3.5\n")
     found = um("table", VEHICLE, "mean", "-", "--lists", stdin="d [m]\n")
@@ -224,7 +255,7 @@ def test_results_as_json(um):
         {"status": 0, "row": 2, "line": 3, "text": "3<kg m^2/s^2>",
          "value": {"number": "3", "unit": {"kg": 1, "m": 2, "s": -2}}},
         {"status": 65, "kind": "data", "file": "<stdin>", "row": 3, "line": 4, "column": "mass [kg]",
-         "message": "'x' isn't a number"}]
+         "message": "'x' isn't a number such as 2.5, 1.5e3 or 1/3"}]
     assert found.status == 65
 
 

@@ -125,8 +125,11 @@ def test_a_file_of_the_library_is_found_by_its_name(um, files, tmp_path):
     assert found.out == "speed : num<m> -> num<s> -> num<m/s>\nk : num<m/s>\n"
     found = um("types", "--with", "motion", main)
     assert (found.status, found.out) == (66, "")
-    assert found.err == ("um: motion: no file of the library has this name; "
+    names = sorted(path.stem for path in (HOME / "library").glob("*.um"))
+    assert found.err == (f"um: motion: no file of the library has this name; there are {' '.join(names)}; "
                          "a file of your own is --with ./motion.um\n")
+    assert um("types", "--with", "mony", main).err.startswith(
+        "um: mony: no file of the library has this name; similar: money; ")
 
 
 def test_the_library_beside_the_program_goes_first(um, files, tmp_path, script):
@@ -209,10 +212,10 @@ def test_a_place_after_such_files_is_told_in_its_own(um, library, program):
 
 
 def test_a_file_that_is_asked_for_and_not_there_is_told(um, library, program):
-    file = program("// with: c q\nlet d = c + 1\n", "d.um")
+    file = program("// with: si, list\nlet d = 1\n", "d.um")
     found = um("types", file, UM_PATH=str(library))
     assert (found.status, found.out) == (66, "")
-    assert found.err == f"um: {file}: the first line asks for q: no file of the library has this name\n"
+    assert found.err == f"um: {file}: the first line asks for si,: no file of the library has this name; similar: si\n"
 
 
 def test_files_that_ask_for_each_other_are_told(um, library, program):

@@ -12,9 +12,12 @@ from umc.program import Answer, Program
 from umc.reports import Report
 from umc.similar import similar
 from umc.texts import Text, gather, read
+from umc.why import no_base_units, no_units, why, wrong_word
 
 NO_UNITS = "-"
 STOPPED = (12, 13)
+TRACED = {**dict.fromkeys(("run", "eval", "steps"), "um trace with the same words says where"),
+          "show": "um trace of the same call says where"}
 IN_ARGUMENT = re.compile(r" at [0-9]+$")
 
 
@@ -59,7 +62,7 @@ def ask(program: Program, words: list[str], text: Text, limits: Limits) -> Answe
         return program.ask(words, text.data, limits)
     except WordsTooLong as fault:
         if words[0] != "run":
-            raise WordsTooLong(f"{fault.message}; um run takes arguments of any length") from fault
+            raise WordsTooLong(f"{fault.message}; um run takes longer ones") from fault
         if not program.has("calls"):
             raise WordsTooLong(f"{fault.message}, and this umc has no command 'calls', which would") from fault
     answer = program.ask(["calls", words[1]], source_of_calls(text.data, [line_of_calls(words[2:])]), limits)
@@ -74,11 +77,11 @@ def ask(program: Program, words: list[str], text: Text, limits: Limits) -> Answe
 
 def _refuse(args: argparse.Namespace, front: Front, text: Text, words: list[str], given: list[Argument],
             answer: Answer) -> int:
-    report = reports.of_answer(answer.status, answer.output)
+    report = answered = reports.of_answer(answer.status, answer.output)
     if report.status == 1:
         front.program.need(args.command)
         return front.refuse(text, report, notes=unknown_words(words))
-    notes, place = [], None
+    notes, place = wrong_word(words) if report.status == 2 else [], None
     if report.argument is not None:
         number, at = report.argument
         part = given[number - 1]
@@ -87,10 +90,20 @@ def _refuse(args: argparse.Namespace, front: Front, text: Text, words: list[str]
         if place is not None:
             report = Report(report.status, IN_ARGUMENT.sub("", report.message))
     if report.status == 11 and args.command != "exec":
-        notes += about_function(front.program, text, args.function)
-    if report.status in STOPPED and args.command in ("run", "eval", "show") and front.program.has("trace"):
-        notes.append("um trace with the same words says where")
+        notes += _why(args, front.program, text, answered, given)
+    if report.status in STOPPED and args.command in TRACED and front.program.has("trace"):
+        notes.append(TRACED[args.command])
     return front.refuse(text, report, place, notes)
+
+
+def _why(args: argparse.Namespace, program: Program, text: Text, report: Report, given: list[Argument]) -> list[str]:
+    """Why a call is refused, and the type of its function."""
+    if report.message == "no such base unit":
+        return no_base_units(program.ask, text.data, args.sizes)
+    if report.message in ("no such unit", "power range of the units"):
+        return no_units(program.ask, text.data, args.unit)
+    words = [args.function, *(part.text for part in given)]
+    return [*why(program.ask, text.data, report, words), *about_function(program, text, args.function)]
 
 
 def about_function(program: Program, text: Text, name: str) -> list[str]:

@@ -86,7 +86,7 @@ def number_text(text: str) -> str:
         return f"{ratio[1]}r{ratio[2]}"
     found = DECIMAL.fullmatch(some_text(text))
     if not found:
-        raise CellError(f"{shortened(text)} isn't a number")
+        raise CellError(f"{shortened(text)} isn't a number such as 2.5, 1.5e3 or 1/3")
     if abs(int(found["power"] or 0)) > MOST_DIGITS:
         raise CellError(f"{shortened(text)} has too many digits")
     exact = Fraction(text)

@@ -28,10 +28,12 @@ environment:
 
 exit status:
   0         every answer was given
+  1         also: tidy --check found a file that isn't laid out so
   1 to 22   the program's status: the number in 'error N'
   64        the words of um itself are wrong       65   a row of a table can't be read
   66        a file can't be read                   69   there is no umc, or it lacks the command
   73        a file can't be written                124  a limit of the run was reached
+  128 and more: umc was ended by a signal; 128 and its number
 """
 LATER = " (needs a later umc)"
 # The commands of umc that um has no command of its own for.

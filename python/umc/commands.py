@@ -31,7 +31,7 @@ class Command:
 
     def parser(self) -> options.Parser:
         """The parser of the words after the command's name, whose help is the command's page."""
-        parser = options.Parser(prog=f"um {self.name}", usage=f"%(prog)s [OPTION..] {self.usage}",
+        parser = options.Parser(prog=f"um {self.name}", usage=f"%(prog)s [OPTION..] {self.usage}".rstrip(),
                                 description=f"{self.sentence()}\n\n{self.text}", epilog=self.epilog())
         self.words(parser)
         options.shared(parser)
@@ -76,7 +76,7 @@ def _image(parser: argparse.ArgumentParser) -> None:
 
 def _rescale(parser: argparse.ArgumentParser) -> None:
     parser.add_argument("files", metavar="FILE", help="a program; - is standard input")
-    parser.add_argument("sizes", metavar="SIZES", help="how many of the new size make one of the old, as m=100,s=1000")
+    options.sizes(parser)
     options.before(parser)
     options.output(parser, "write the text to a file, unless it is refused")
 
@@ -117,7 +117,7 @@ def _show(parser: argparse.ArgumentParser) -> None:
 
 def _twin(parser: argparse.ArgumentParser) -> None:
     options.file(parser)
-    parser.add_argument("sizes", metavar="SIZES", help="how many of the new size make one of the old, as m=100,s=1000")
+    options.sizes(parser)
     options.function(parser)
     options.arguments(parser)
     options.before(parser)

@@ -10,6 +10,7 @@ from umc.reports import Report
 from umc.call_commands import about_function
 from umc.arguments import Argument
 from umc.texts import MOST, STANDARD_INPUT, Place, Source, Text, gather, read
+from umc.why import why_signature
 
 PLACE = re.compile(r" at [0-9]+$")
 COMMENT, SIGN = "#", " : "
@@ -75,7 +76,7 @@ def _refuse(front: Front, text: Text, words: list[str], place: Place | None, ans
     notes = about_function(front.program, text, words[1])
     at = report.signature
     if at is not None:
-        notes = Argument(words[2]).excerpt(at)
+        notes = [*Argument(words[2]).excerpt(at), *why_signature(front.program.ask, text.data, report, words[2])]
         if place is not None:
             place = Place(place.file, place.line, place.column + at - 1)
             report = Report(report.status, PLACE.sub("", report.message))

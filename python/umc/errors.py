@@ -31,6 +31,9 @@ class UmError(Exception):
         self.message = message
         self.file = file
 
+    def __str__(self) -> str:
+        return f"{self.file}: {self.message}" if self.file else self.message
+
 
 class UsageError(UmError):
     """The words of the command line can't be what was meant."""

@@ -15,8 +15,9 @@ class WholeFile:
         self.name, self.path = name, Path(os.path.realpath(name))
         self._beside: str | None = None
         try:
-            if self.path.exists() and not self.path.is_file():
-                self._sink: BinaryIO = open(self.path, "wb", buffering=0)
+            given = Path(name)  # the path of a pipe, as of /dev/stdout, leads to no file
+            if given.exists() and not given.is_file():
+                self._sink: BinaryIO = open(name, "wb", buffering=0)
             else:
                 handle, self._beside = tempfile.mkstemp(prefix=f".{self.path.name[:100]}.", dir=self.path.parent)
                 self._sink = open(handle, "wb", buffering=0)

@@ -13,6 +13,8 @@ from umc.program import Answer, Program, find
 from umc.reports import Report
 from umc.terminal import BOLD, CYAN, GREEN, RED, Terminal
 from umc.texts import Place, Text
+from umc.unseen import unseen
+from umc.why import wrong_word
 
 
 class Front:
@@ -32,7 +34,7 @@ class Front:
     def write(self, data: bytes) -> None:
         """Writes to standard output, at once."""
         if sys.stdout is None:
-            raise OSError(errno.EBADF, "standard output is closed")
+            raise OSError(errno.EBADF, "it is closed")
         sys.stdout.buffer.write(data)
         sys.stdout.buffer.flush()
 
@@ -50,12 +52,12 @@ class Front:
             return []
         return places.explanation(lines, text, place)
 
-    def refuse_answer(self, text: Text, words: Sequence[str], answer: Answer) -> int:
-        """Tells the refusal of a text, and gives the status."""
+    def refuse_answer(self, text: Text, words: Sequence[str], answer: Answer, notes: Sequence[str] = ()) -> int:
+        """Tells the refusal of a text, with what else is known of it, and gives the status."""
         report = reports.of_answer(answer.status, answer.output)
         if report.status == 1:
             self.program.need(words[0])
-        return self.refuse(text, report, notes=unknown_words(words) if report.status == 1 else [])
+        return self.refuse(text, report, notes=unknown_words(words) if report.status == 1 else notes)
 
     def refuse(self, text: Text, report: Report, place: Place | None = None, notes: Sequence[str] = ()) -> int:
         """Tells a refusal with its place, if it has one, and what else is known of it."""
@@ -63,6 +65,7 @@ class Front:
         if place is None and report.line is not None and report.column is not None:
             place = text.place(report.line, report.column)
             lines = self.explanation(text, report, place) if report.has_explanation else []
+            lines += unseen(text, report, place)
         self.tell(report, place, text.name, [*lines, *notes])
         return report.status
 
@@ -89,7 +92,7 @@ class Front:
         if self.json:
             self.emit({"status": int(error.status), "kind": error.kind, "file": error.file, "message": error.message})
         else:
-            where = f"{error.file}: " if error.file else ""
+            where = f"{error.file or repr('')}: " if error.file is not None else ""
             self.terminal.say(self.terminal.paint("um: ", BOLD) + where + error.message)
         return int(error.status)
 
@@ -115,5 +118,5 @@ def refusal_tree(report: Report, place: Place | None, file: str, lines: Sequence
 def unknown_words(words: Sequence[str]) -> list[str]:
     """What is said after `error 1: usage`."""
     shown = " ".join(words)
-    return [f"umc takes no such words: {shown if len(shown) <= 200 else shown[:200] + ' ..'}",
-            f"um {words[0]} --help says which it takes"]
+    shown = shown if len(shown) <= 200 else shown[:200] + " .."
+    return wrong_word(words) or [f"umc takes no such words: {shown}", f"um {words[0]} --help says which it takes"]

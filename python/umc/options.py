@@ -103,10 +103,16 @@ def arguments(parser: argparse.ArgumentParser) -> None:
                         help="an argument, as '2<kg>', '[1<m>; 2<m>]' or true; @FILE reads it from a file")
 
 
+def sizes(parser: argparse.ArgumentParser) -> None:
+    """New sizes of base units."""
+    parser.add_argument("sizes", metavar="SIZES", help="how many of the new size make one of the old, each above 0, as "
+                                                       "m=100,s=1000 or cent=0.01")
+
+
 def budget(parser: argparse.ArgumentParser) -> None:
     """The budget of a call."""
     parser.add_argument("--budget", metavar="N", default=BUDGET,
-                        help=f"how many calls the run may make at most (default: {int(BUDGET):,})")
+                        help=f"how many calls the run may make at most (default: {int(BUDGET):,}, the most there is)")
 
 
 def run_limits(parser: argparse.ArgumentParser) -> None:

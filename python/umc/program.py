@@ -164,7 +164,8 @@ def find() -> Program:
     if named:
         found = shutil.which(named)
         if found is None:
-            raise Unavailable(f"UMC={named}: there is no such program")
+            wrong = "it is no program that one may run" if os.path.exists(named) else "there is no such program"
+            raise Unavailable(f"UMC={named}: {wrong}")
         return Program(Path(found).absolute())
     if is_checkout(HOME) and os.access(HOME / "umc", os.X_OK):
         return Program(HOME / "umc")

@@ -2,6 +2,7 @@
 import argparse
 import csv
 import io
+import re
 from types import TracebackType
 
 from umc import printed
@@ -11,13 +12,19 @@ from umc.files import WholeFile
 from umc.front import Front, encoded
 
 Cells = list[tuple[str, str, str]]
+NUMBERS = re.compile(r"num<([^'<>]*)>")  # the type of numbers of one unit
 
 
 class Results:
-    """The rows of results. Their header is written once the first results have told their units."""
+    """The rows of results. Their header is written once the first results have told their units.
 
-    def __init__(self, args: argparse.Namespace, front: Front, data_header: list[str]):
+    The type is that of a result, which tells the unit of numbers if there are no results.
+    """
+
+    def __init__(self, args: argparse.Namespace, front: Front, data_header: list[str], type_text: str):
         self.front, self.args = front, args
+        found = NUMBERS.fullmatch(type_text.removesuffix(" list") if args.lists else type_text)
+        self.unit: str = found[1] if found else ""
         self.data_header = [] if args.only_results or args.lists else data_header
         self.columns: list[tuple[str, str]] | None = None
         self._units: list[str] = []
@@ -65,7 +72,7 @@ class Results:
         writer = csv.writer(buffer, lineterminator="\n", delimiter=self.args.delimiter)
         if self.columns is None:
             names = [name for name, _, _ in self._waiting[0][1]] if self._waiting else [self.args.function]
-            self.columns = list(zip(names, self._units or [""]))
+            self.columns = list(zip(names, self._units or [self.unit]))
             writer.writerow([*self.data_header, *(header(name, unit) for name, unit in self.columns)])
         for cells, results in self._waiting:
             writer.writerow([*cells, *(text for _, _, text in results)])

@@ -2,6 +2,7 @@
 import argparse
 import csv
 import gc
+import shlex
 from collections.abc import Iterator
 from contextlib import AbstractContextManager, nullcontext
 from dataclasses import dataclass, field
@@ -10,7 +11,7 @@ from typing import Any
 
 from umc import printed, reports
 from umc.arguments import Argument, line_of_calls, source_of_calls
-from umc.call_commands import limits_of
+from umc.call_commands import STOPPED, limits_of
 from umc.cells import CellError, Column, columns, counted, items_of
 from umc.data import DataFile, Row
 from umc.errors import Crashed, DataError, Exit, UsageError
@@ -19,8 +20,10 @@ from umc.reports import Report
 from umc.results import Results
 from umc.similar import similar
 from umc.texts import STANDARD_INPUT, Text, gather
+from umc.why import why, wrong_word
 
 CHUNK_SIZE = 4 << 20
+LONGEST = 400  # signs of a command that is told
 # What may stand between cells in place of a comma, as one reads it and as --delimiter names it.
 OTHER_DELIMITERS = {"\t": ("tabs stand", "tab"), ";": ("';' stands", "';'"), "|": ("'|' stands", "'|'")}
 
@@ -55,7 +58,7 @@ class Chunk:
 
 @dataclass
 class Job:
-    """What stays the same for all rows, and the status so far."""
+    """What stays the same for all rows, the status so far, and in which ways rows were refused."""
 
     args: argparse.Namespace
     front: Front
@@ -64,6 +67,7 @@ class Job:
     columns: list[Column]
     results: Results
     status: int = 0
+    told: set[str] = field(default_factory=set)
 
     def goes_on(self) -> bool:
         """Whether the rows that follow are looked at."""
@@ -96,7 +100,10 @@ class Job:
         self.front.terminal.say(f"{self._file(row)}: {column}{fault.message}{f' (row {row.number})' if row else ''}")
 
     def refuse(self, row: Row | None, words: list[str], report: Report) -> None:
-        """Tells a call that the program refuses."""
+        """Tells a call that the program refuses. Why is told of the first one that is refused in this way."""
+        way, _, _ = report.message.partition(" at ")
+        cause = [] if way in self.told else self._why(words, report)
+        self.told.add(way)
         self.status = self.status or report.status
         notes, where = [], self._where(row)
         if report.argument and len(words) > report.argument[0]:
@@ -105,10 +112,22 @@ class Job:
             notes = Argument(words[number]).excerpt(at) if at is not None else []
         if self.front.json:
             self.front.emit({"status": report.status, "kind": report.kind, "file": self.data.name, **where,
-                             "message": report.message})
+                             "message": report.message, **({"explanation": cause} if cause else {})})
             return
         told = ", ".join(f"{name} {where[name]!r}" for name in ("row", "column") if name in where)
-        self.front.tell(report, None, self._file(row), [*([told] if told else []), *notes])
+        self.front.tell(report, None, self._file(row), [*([told] if told else []), *notes, *cause])
+
+    def _why(self, words: list[str], report: Report) -> list[str]:
+        """What is known of the cause, or the command that knows it."""
+        if report.status == 1:
+            return wrong_word(words)
+        if report.status not in STOPPED:
+            return why(self.front.program.ask, self.text.data, report, words)
+        before = [part for name in self.args.before for part in ("--with", name)]
+        budget = ["--budget", self.args.budget] if report.status == 13 else []
+        command = shlex.join(["um", "trace", *before, *budget, self.args.file, *words])
+        fits = len(command) <= LONGEST and self.args.file != STANDARD_INPUT and self.front.program.has("trace")
+        return [f"{command} says where"] if fits else []
 
     def _where(self, row: Row | None) -> dict[str, Any]:
         return {"row": row.number, "line": row.line} if row else {}
@@ -131,8 +150,10 @@ def run(args: argparse.Namespace, front: Front) -> int:
         return _no_function(args, front, text, list(schemes))
     front.program.need("calls")
     with DataFile(args.data, args.delimiter) as data:
-        every = _columns(args, data, schemes[args.function]["parameters"])
-        with Results(args, front, data.header) as results:
+        scheme = schemes[args.function]
+        every = _columns(args, data, scheme["parameters"])
+        type_text = scheme["text"].partition(" : ")[2].rpartition(" -> ")[2]
+        with Results(args, front, data.header, type_text) as results:
             job = Job(args, front, text, data, every, results)
             (_lists if args.lists else _rows)(job)
     return job.status

@@ -10,6 +10,7 @@ from umc.errors import Exit, UmError, UsageError
 from umc.files import save
 from umc.front import Front
 from umc.texts import STANDARD_INPUT, Text, check_once, gather, read
+from umc.why import no_base_units
 
 # The first line of what is said of a function: a name stands at its start.
 FUNCTION = re.compile(rb"^[^\s0-9]", re.MULTILINE)
@@ -51,7 +52,8 @@ def _one(args: argparse.Namespace, front: Front, name: str, answers: list[bytes]
     words = words_of(args)
     answer = front.program.ask(words, text.data)
     if answer.status != 0:
-        return front.refuse_answer(text, words, answer)
+        notes = no_base_units(front.program.ask, text.data, args.sizes) if answer.status == 11 else []
+        return front.refuse_answer(text, words, answer, notes)
     output = _own(front, text, answer.output) if getattr(args, "own", False) else answer.output
     if front.json and not args.output:
         parts = PARTS.get(args.command, _text)

@@ -11,6 +11,7 @@ from pathlib import Path
 
 from umc.errors import InputError, UsageError
 from umc.program import HOME, Program, is_checkout
+from umc.similar import similar
 
 STANDARD_INPUT = "-"
 # No command of the program takes more bytes.
@@ -120,7 +121,15 @@ def library_file(name: str, program: Program) -> str:
         if (folder / f"{name}.um").is_file():
             own = is_checkout(HOME) and folder == HOME / "library"
             return os.path.relpath(folder / f"{name}.um") if own else str(folder / f"{name}.um")
-    raise InputError(f"no file of the library has this name; a file of your own is --with ./{name}.um", name)
+    raise InputError(f"no file of the library has this name{_others(name, folders)}; a file of your own is "
+                     f"--with ./{name}.um", name)
+
+
+def _others(name: str, folders: Iterable[Path]) -> str:
+    """What is told of the files that are there, after one that isn't."""
+    names = sorted({path.stem for folder in folders for path in folder.glob("*.um")})
+    found = similar(name, names)
+    return f"; similar: {' '.join(found)}" if found else f"; there are {' '.join(names)}" if names else ""
 
 
 def _identity(name: str) -> object:
@@ -169,7 +178,8 @@ class Gathering:
         try:
             return library_file(part, self.program)
         except InputError as error:
-            raise InputError(f"the first line asks for {part}: no file of the library has this name",
+            others = _others(part, library_folders(self.program))
+            raise InputError(f"the first line asks for {part}: no file of the library has this name{others}",
                              source.name) from error
 
 

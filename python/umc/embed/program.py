@@ -135,10 +135,22 @@ class Program:
 
     def _refusal(self, words: list[str], answer: Answer) -> Refused:
         name, *arguments = words
-        found = refused.of_call(answer, arguments, self._schemes[name].text)
+        found = refused.of_call(answer, arguments, self._schemes[name].text, self._ask, self._text.data)
         if found.status in refused.TRAPS and self.engine.has("trace"):
             found = refused.of_trap(self._handle, self._text, [str(self.budget), *words], found)
         return found
+
+    def first_refused(self, name: str, columns: Sequence[list[str]], row: int, line: str) -> Refused:
+        """The refusal of a row with all that is known of it."""
+        report = reports.parse(line)
+        answer = Answer(report.status if report else 0, line.encode())
+        found = self._refusal([name, *(column[row - 1] for column in columns)], answer)
+        found.row = row
+        return found
+
+    def _ask(self, words: Sequence[str], text: bytes) -> Answer:
+        """The answer of the engine to words about a text of its own."""
+        return self.engine.open(text).ask(words)
 
     def _refused(self, name: str, row: int, columns: Sequence[list[str]], line: str) -> Refused:
         report = reports.parse(line)
@@ -151,7 +163,11 @@ class Program:
         """A quantity in another unit, as the program computes it."""
         name, sign, size = unit.partition("=")
         name = name.strip()
-        ratio = self._ratio_program()[RATIO](given, size if sign else f"1<{unit}>")
+        try:
+            ratio = self._ratio_program()[RATIO](given, size if sign else f"1<{unit}>")
+        except Refused as refusal:
+            refusal.explanation = tuple(line for line in refusal.explanation if not line.startswith(f"{RATIO} "))
+            raise
         if ratio.unit in ("", quantity.OPEN):
             return Quantity(ratio.magnitude, name, _convert=self.convert)
         conversion = f"{given.unit}_to_{name}"
@@ -223,8 +239,8 @@ class Function:
             raise ValueRefused(f"the columns have {', '.join(str(len(column)) for column in texts)} rows")
         found = self.program.answers(self.name, texts)
         first = next((value for value in found if isinstance(value, Refused)), None)
-        if first is not None and not keep_going:
-            raise first
+        if first is not None and first.row is not None and not keep_going:
+            raise self.program.first_refused(self.name, texts, first.row, first.report)
         return found
 
 

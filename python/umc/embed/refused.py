@@ -1,4 +1,5 @@
 """Refusals as exceptions."""
+from contextlib import suppress
 from dataclasses import replace
 
 from umc import places, reports
@@ -8,8 +9,9 @@ from umc.errors import UmError
 from umc.program import Answer
 from umc.reports import Report
 from umc.texts import Place, Text
+from umc.why import Ask, why, wrong_word
 
-CALL, TRAPS = 11, (12, 13)
+WORDS, CALL, TRAPS = (1, 2), 11, (12, 13)
 
 
 class Refused(UmError):
@@ -61,21 +63,29 @@ def _explained(handle: Handle, text: Text, report: Report, place: Place) -> list
     return places.explanation(lines, text, place) if answer.status == 0 and reports.parse(first) == report else []
 
 
-def of_call(answer: Answer, arguments: list[str], scheme: str | None) -> Refused:
-    """The refusal of a call, with the argument that it names and what the function takes."""
+def of_call(answer: Answer, arguments: list[str], scheme: str | None, ask: Ask | None = None,
+            text: bytes = b"") -> Refused:
+    """The refusal of a call, with the argument that it names and what the function takes, and with the cause as far as
+    what is asked knows it.
+    """
     report = reports.of_answer(answer.status, answer.output)
-    lines = []
+    lines = wrong_word(arguments) if report.status in WORDS else []
     if report.argument is not None:
         number, at = report.argument
         lines = Argument(arguments[number - 1]).excerpt(at) if at is not None and number <= len(arguments) else []
     if report.status == CALL and scheme is not None:
+        with suppress(UmError):     # the answer may reach a limit, and the refusal is known
+            lines += why(ask, text, report, [scheme.partition(" : ")[0], *arguments]) if ask else []
         lines.append(scheme)
     return Refused(report, line_of(answer), None, tuple(lines))
 
 
 def of_trap(handle: Handle, text: Text, words: list[str], refused: Refused) -> Refused:
     """The refusal of a run with the place where it ended, which `trace` knows."""
-    answer = handle.ask(["trace", *words])
+    try:
+        answer = handle.ask(["trace", *words])
+    except UmError:     # it may reach a limit, and a process takes long words for `run` alone
+        return refused
     first, *lines = line_of(answer).split("\n")
     report = reports.parse(first)
     if answer.status != 0 or report is None or report.line is None or report.column is None:
