@@ -22,6 +22,9 @@ VERSION := $(shell cat VERSION)
 SONAME := libumc.so.1
 PACKAGES := umc umc/embed umc/lsp
 FOLDERS := editors examples
+# They stand below DOCDIR as they stand here, so that their links lead somewhere.
+DOCUMENTS := README.md CHANGELOG.md CONTRIBUTING.md $(wildcard docs/*.md) \
+	$(addsuffix /README.md,bench page reference)
 BASH_COMPLETION := bash-completion/completions/um
 FISH_COMPLETION := fish/vendor_completions.d/um.fish
 COMPLETIONS := $(BASH_COMPLETION) $(FISH_COMPLETION)
@@ -102,9 +105,12 @@ install-data:
 		[ -x "$$file" ] && mode=755 || mode=644; \
 		$(INSTALL) -D -m $$mode "$$file" "$(call into,$(DATADIR)/umc)/$$file" || exit; \
 	done
-	$(INSTALL) -d $(call into,$(DOCDIR))
-	$(INSTALL) -m 644 README.md CHANGELOG.md docs/LANGUAGE.md docs/UM.md docs/LIBRARY.md docs/EMBEDDING.md \
-		$(call into,$(DOCDIR))/
+	for file in $(DOCUMENTS); do \
+		$(INSTALL) -D -m 644 $$file "$(call into,$(DOCDIR))/$$file" || exit; \
+	done
+	for folder in $(FOLDERS); do \
+		ln -sfnr "$(call into,$(DATADIR)/umc)/$$folder" "$(call into,$(DOCDIR))/$$folder" || exit; \
+	done
 
 uninstall:
 	rm -f $(call into,$(BINDIR)/umc) $(call into,$(BINDIR)/um)

@@ -62,6 +62,13 @@ def test_all_parts_are_installed(installed):
         done("zsh", "-n", installed / "usr/local/share/zsh/site-functions/_um")
 
 
+def test_the_links_of_an_installed_document_lead_somewhere(installed):
+    documents = installed / "usr/local/share/doc/umc"
+    for document in [documents / "README.md", *documents.glob("docs/*.md")]:
+        for link in re.findall(r"\]\(([^)#:]+)(?:#[^)]*)?\)", document.read_text()):
+            assert (document.parent / link).exists(), (document.name, link)
+
+
 def test_uninstall_removes_what_was_installed(libraries, tmp_path):
     words = ["make", "-s", f"DESTDIR={tmp_path}", "PREFIX=/opt/umc", f"PROGRAM={PROGRAM}", f"LIBRARIES={libraries}"]
     other = tmp_path / "opt/umc/lib/other"
