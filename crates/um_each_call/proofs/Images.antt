@@ -32,7 +32,7 @@ use Rattle.um_call_answers.specs.AskedCall.{AskedCall}
 use Rattle.um_call_answers.specs.ExecAnswer.{IsVerifyReply, ImageRunAnswer, ByImageCall, VerifiedAnswer, DecodedAnswer, BytesAnswer, ExecAnswer}
 use Rattle.um_each_answer.proofs.Texts.{within, beyond}
 use Rattle.um_each_answer.proofs.Answers.{Told}
-use Rattle.um_each_image.specs.Laws.{ImagesAreVerifiedOrRefused}
+use Rattle.um_verifier.specs.Laws.{ImagesAreVerifiedOrRefused}
 use Rattle.um_each_call.specs.Laws.{ImagesHaveAnswers}
 use Rattle.um_each_call.proofs.Arguments.{AreShapesIn, InputsOrRefusal, inputs_or_refusal}
 use Rattle.um_each_call.proofs.Named.{same_count, other_count}

@@ -23,7 +23,7 @@ pub fn calls_are_answered()
     um_scale::laws::rescaled_programs();
     um_trace::laws::traces();
     um_image::bytes_of_images();
-    um_each_image::laws::images_are_answered();
+    um_verifier::images_are_answered();
     um_verify::runs_of_verified_images();
     um_run::laws::image_calls();
 }

@@ -2,26 +2,25 @@
 use Rattle.std.proofs.Common.{◌≡◌, inl, inr, ℕ, zero, suc, Bool, true, false, ◌&&◌, ◌||◌, not, List, [], ◌∷◌, Some, refl, sym, ap, ◌∙◌}
 use Rattle.std.specs.Prelude.{slice_get, MatchBool}
 use Rattle.std.specs.List.{list_any}
-use Rattle.std.specs.Str.{IsUtf8, is_utf8, chars, bytes_eq}
+use Rattle.std.specs.Str.{is_utf8, chars, bytes_eq}
 use Rattle.std.proofs.lemmas.Str.{IsUtf8-from_is_utf8, is_utf8-from_IsUtf8}
 use Rattle.std.proofs.lemmas.Slice.Eq.{bytes_eq-Decides}
-use Rattle.um_elim.proofs.Cases.{on_test}
 use Rattle.um_tree.specs.Formed.{IsNameBytes, AreDistinct}
 use Rattle.um_verifier.specs.Names.{reads, no_names, is_one_of}
 use Rattle.um_verifier.proofs.NameTests.{no_text, text_test}
-use Rattle.um_each_image.proofs.Decisions.{Dec, as_well, both, is_test}
+use Rattle.um_verifier.proofs.Decisions.{Dec, as_well, both, is_test}
 
 by_match : {P : Type 0} (b : Bool) → MatchBool b P (P → ⊥) → Dec P
 by_match true p = inl p
 by_match false none = inr none
 
 pub is_name : (bytes : List ℕ) → Dec (IsNameBytes bytes)
-is_name bytes =
-    on_test (is_utf8 bytes)
-    (λ t.
-    let b = reads false (chars bytes) && not (is_one_of no_names bytes) in
-    by_match b (text_test bytes bytes refl (IsUtf8-from_is_utf8 bytes t) b refl))
-    (λ t. inr (no_text bytes (λ u. cc (sym (is_utf8-from_IsUtf8 bytes u) ∙ t))))
+is_name bytes = by (is_utf8 bytes) refl where
+  by : (text : Bool) → is_utf8 bytes ≡ text → Dec (IsNameBytes bytes)
+  by true t =
+      let b = reads false (chars bytes) && not (is_one_of no_names bytes) in
+      by_match b (text_test bytes bytes refl (IsUtf8-from_is_utf8 bytes t) b refl)
+  by false t = inr (no_text bytes (λ u. cc (sym (is_utf8-from_IsUtf8 bytes u) ∙ t)))
 
 -- ---- distinct names
 
@@ -51,10 +50,10 @@ module _ (x : List ℕ) (xs : List (List ℕ)) where
   others_apart all i j y e f = let next : suc i ≡ suc j = all (suc i) (suc j) y e f in cc next
 
   none_same : AreDistinct (x ∷ xs) → list_any (bytes_eq x) xs ≡ false
-  none_same all =
-      on_test (list_any (bytes_eq x) xs)
-      (λ t. let (j, is) = at_among xs x t in let next : 0 ≡ suc j = all 0 (suc j) x refl is in absurd (cc next))
-      (λ t. t)
+  none_same all = by (list_any (bytes_eq x) xs) refl where
+    by : (among : Bool) → list_any (bytes_eq x) xs ≡ among → among ≡ false
+    by true t = let (j, is) = at_among xs x t in let next : 0 ≡ suc j = all 0 (suc j) x refl is in absurd (cc next)
+    by false t = refl
 
 pub are_distinct : (xs : List (List ℕ)) → Dec (AreDistinct xs)
 are_distinct [] = inl (λ i j x e f. absurd (cc e))

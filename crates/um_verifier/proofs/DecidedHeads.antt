@@ -12,8 +12,8 @@ use Rattle.um_shape.specs.RecordShapes.{shape_height}
 use Rattle.um_machine.specs.declared.code.Entry.{Entry}
 use Rattle.um_verify.specs.ImageTree.{HeadTree, ImageTree}
 use Rattle.um_verify.specs.Heads.{record_shapes, RecordHolds, NamesBelow, IsShapeIn, FunctionHolds, HeadHolds, IsFirstHead}
-use Rattle.um_each_image.proofs.Decisions.{Dec, both, as_well, less, at_most, all, if_there, first_failing}
-use Rattle.um_each_image.proofs.Names.{is_name, are_distinct}
+use Rattle.um_verifier.proofs.Decisions.{Dec, both, as_well, less, at_most, all, if_there, first_failing}
+use Rattle.um_verifier.proofs.DecidedNames.{is_name, are_distinct}
 
 names_earlier : (r : ℕ) (t : TypeTree) → Dec (NamesEarlier r t)
 names_earlier r bool_type = inl tt

@@ -9,9 +9,9 @@ use Rattle.um_verify.specs.Verified.{flow, Passes, BodyHolds, CodeHolds, IsVerif
 use Rattle.um_verifier.specs.declared.stop.VerifyStop.{VerifyStop}
 use Rattle.um_verifier.specs.declared.stop.VerifyStop.TheVariants.{Head, Code, NoMemory}
 use Rattle.um_verifier.specs.Refusals.{IsRefusal}
-use Rattle.um_each_image.specs.Laws.{ImagesAreVerifiedOrRefused}
-use Rattle.um_each_image.proofs.Decisions.{Dec, first_failing}
-use Rattle.um_each_image.proofs.Heads.{heads_or_first}
+use Rattle.um_verifier.specs.Laws.{ImagesAreVerifiedOrRefused}
+use Rattle.um_verifier.proofs.Decisions.{Dec, first_failing}
+use Rattle.um_verifier.proofs.DecidedHeads.{heads_or_first}
 
 -- nothing stands past the end alone
 slice_get_past_none : {A : Type 0} (xs : List A) (k : ℕ) → slice_get xs k ≡ None → length xs ≤ k
