@@ -10,7 +10,7 @@ pub fn each_is_answered()
     um_infer::laws::stops();
     um_each_reason::laws::refusals_have_reasons();
     um_each_answer::laws::answers_exist();
-    um_text_images::laws::images_are_written();
-    um_text_proofs::laws::texts_are_proved();
+    um_each_answer::laws::images_are_written();
+    um_each_answer::laws::texts_are_proved();
     um_each_call::laws::calls_are_answered();
 }

@@ -11,6 +11,8 @@ use Rattle.um_answers.specs.FmtAnswer.{FmtAnswer}
 use Rattle.um_answers.specs.TidyAnswer.{TidyAnswer}
 use Rattle.um_answers.specs.ConformAnswer.{ConformAnswer}
 use Rattle.um_answers.specs.RescaleAnswer.{RescaleAnswer}
+use Rattle.um_answers.specs.ImageAnswer.{ImageAnswer}
+use Rattle.um_answers.specs.ProveAnswer.{ProveAnswer}
 use Rattle.um_each_answer.specs.Answered.{HasAnswer, IsReadOrRefused}
 
 -- Bytes are read or refused.
@@ -39,3 +41,11 @@ EachTextIsRescaled = (word bytes : List ℕ) → IsTrue (is_scales word) → Has
 -- And of `conform`, if the text of its signature isn't too long.
 abbrev pub EachTextIsConformed : Type 0
 EachTextIsConformed = (name word bytes : List ℕ) → length word ≤ 1048576 → HasAnswer (ConformAnswer name word) bytes
+
+-- And of `image`.
+abbrev pub EachTextHasImage : Type 0
+EachTextHasImage = (bytes : List ℕ) → HasAnswer ImageAnswer bytes
+
+-- And of `prove`.
+abbrev pub EachTextIsProved : Type 0
+EachTextIsProved = (bytes : List ℕ) → HasAnswer ProveAnswer bytes

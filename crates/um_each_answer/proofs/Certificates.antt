@@ -50,8 +50,8 @@ use Rattle.um_proof.proofs.Judged.{judged_solved}
 use Rattle.um_proof.proofs.Renamed.{are_numbered}
 use Rattle.um_proof.proofs.TidyYes.{tidy_yes}
 use Rattle.um_proof.proofs.ValidYes.{head, valid_yes, end_passes}
-use Rattle.um_text_proofs.proofs.Narrow.{IsPastAmong, AreNarrow, all_narrow_or_past}
-use Rattle.um_text_proofs.proofs.Rows.{Passes, Ends, rows_end}
+use Rattle.um_each_answer.proofs.Narrow.{IsPastAmong, AreNarrow, all_narrow_or_past}
+use Rattle.um_each_answer.proofs.Rows.{Passes, Ends, rows_end}
 use Rattle.um_each_answer.proofs.Values.{kept_items}
 
 -- ---- parts of which the powers are given

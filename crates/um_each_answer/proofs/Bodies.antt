@@ -17,7 +17,7 @@ use Rattle.um_names.specs.Resolution.{with_base, with_short, with_record, with_f
 use Rattle.um_names.proofs.FormedTypes.{then_found}
 use Rattle.um_names.proofs.Wholes.{its_name, with_its_name, with_unit_params, with_params, with_result}
 use Rattle.um_front.specs.Stages.{ShapedTree, IsShapedText}
-use Rattle.um_text_images.proofs.Powers.{LowPowers, powers}
+use Rattle.um_each_answer.proofs.Powers.{LowPowers, powers}
 
 -- ---- each declared body is one of the grammar
 

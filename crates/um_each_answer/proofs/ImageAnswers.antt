@@ -19,10 +19,10 @@ use Rattle.um_answers.specs.ImageAnswer.{IsImageReply, ImageAnswer}
 use Rattle.um_answers.proofs.ShortNames.{short_names}
 use Rattle.um_each_answer.specs.Laws.{EachTextHasStages}
 use Rattle.um_each_answer.proofs.Answers.{Told, of_checked}
-use Rattle.um_text_images.specs.Laws.{EachTextHasImage}
-use Rattle.um_text_images.proofs.Bodies.{Low, text_low}
-use Rattle.um_text_images.proofs.Operands.{AreFunctionsFrom, functions_after, all_functions, code_fits}
-use Rattle.um_text_images.proofs.Numbers.{numbers_fit}
+use Rattle.um_each_answer.specs.Laws.{EachTextHasImage}
+use Rattle.um_each_answer.proofs.Bodies.{Low, text_low}
+use Rattle.um_each_answer.proofs.Operands.{AreFunctionsFrom, functions_after, all_functions, code_fits}
+use Rattle.um_each_answer.proofs.ImageNumbers.{numbers_fit}
 
 -- ---- the heads of functions with shapes
 module _ (p : ProgramTree) (formed : IsFormed p) (shaped : IsShaped p) where

@@ -29,9 +29,9 @@ use Rattle.um_kept.specs.Answers.{IsRefusedAs, AreRefused}
 use Rattle.um_proof.specs.Answers.{AreFunctionRows, judged, IsRefused, IsNoMade}
 use Rattle.um_proof.proofs.Judged.{judged_refused, front_inside, front_unsolved, rows_low}
 use Rattle.um_proof.proofs.ValidNo.{refuted, general_no, loose_refuted, loose_valid, loose_answers}
-use Rattle.um_text_proofs.proofs.Narrow.{IsPast, narrow_or_past}
-use Rattle.um_text_proofs.proofs.Rows.{IsRefusedAfter, Passes, Ends, rows_end}
-use Rattle.um_text_proofs.proofs.Certificates.{parts_of, exponents_are, parts_named, parts_tidy}
+use Rattle.um_each_answer.proofs.Narrow.{IsPast, narrow_or_past}
+use Rattle.um_each_answer.proofs.Rows.{IsRefusedAfter, Passes, Ends, rows_end}
+use Rattle.um_each_answer.proofs.Certificates.{parts_of, exponents_are, parts_named, parts_tidy}
 
 -- ---- the least base unit of a unit without variables
 

@@ -18,8 +18,8 @@ use Rattle.um_machine.specs.declared.table.Operand.TheVariants as operand
 use Rattle.um_gen.specs.ProgramCode.{arith_op, sign_ops, expr_size, all_size, expr_code, all_code, parameter_places, function_code, functions_code}
 use Rattle.um_gen.proofs.Sizes.{few, some}
 use Rattle.um_image.specs.Places.{OperandFits, OpFits}
-use Rattle.um_text_images.proofs.Powers.{LowPowers, AllLowPowers}
-use Rattle.um_text_images.proofs.Bodies.{Low}
+use Rattle.um_each_answer.proofs.Powers.{LowPowers, AllLowPowers}
+use Rattle.um_each_answer.proofs.Bodies.{Low}
 
 -- ---- single instructions
 

@@ -42,8 +42,8 @@ use Rattle.um_proof.proofs.FunctionRows.{are_function_rows}
 use Rattle.um_proof.proofs.FunctionAnswers.{same_item, yes_valid, yes_range, refused_function, refused_inside, refused_judgement, no_refused, no_valid, no_range, within_limits, refused_within}
 use Rattle.um_proof.proofs.Judged.{judged_solved}
 use Rattle.um_each_answer.proofs.Values.{kept_items, kept_type, kept_is, kept_are, kept_types}
-use Rattle.um_text_proofs.proofs.Certificates.{certified}
-use Rattle.um_text_proofs.proofs.Refusals.{refuted_or_passes}
+use Rattle.um_each_answer.proofs.Certificates.{certified}
+use Rattle.um_each_answer.proofs.RefusalCertificates.{refuted_or_passes}
 
 noted_count : (holes names : ℕ → PowerMap) (n : ℕ) (ms : List NoteTree) → length (noted_types holes names n ms) ≡ length ms
 noted_count holes names n [] = refl

@@ -23,8 +23,8 @@ use Rattle.um_answers.specs.ProveAnswer.{IsProofReply, IsProveReply, ProveAnswer
 use Rattle.um_each_answer.specs.Answered.{HasAnswer}
 use Rattle.um_each_answer.specs.Laws.{EachTextHasStages}
 use Rattle.um_each_answer.proofs.Answers.{Told}
-use Rattle.um_text_proofs.specs.Laws.{EachTextIsProved}
-use Rattle.um_text_proofs.proofs.Programs.{has_proofs}
+use Rattle.um_each_answer.specs.Laws.{EachTextIsProved}
+use Rattle.um_each_answer.proofs.ProgramCertificates.{has_proofs}
 
 module _ (slots : SlotStopsAreExact) (ranges : RangeStopsAreExact) (bytes : List ℕ) (p : ProgramTree) where
   result_told : (r : Result Proofs ProveStop) → r ≢ Err prove.NoMemory → IsProved p r → Told (IsProofReply bytes p r)

@@ -17,7 +17,7 @@ use Rattle.um_check.specs.Existence.{parts_after}
 use Rattle.um_check.proofs.InverseSteps.{length-units_after}
 use Rattle.um_kept.specs.Kept.{Kept, row_unit, row_total, kept_after_steps, ended, LeavePower, IsRowMade, IsReached, first}
 use Rattle.um_kept.specs.Formed.{IsNumber, PassesInRow, PassesInRows}
-use Rattle.um_text_proofs.proofs.Narrow.{IsPastAmong, AreNarrow, all_narrow_or_past}
+use Rattle.um_each_answer.proofs.Narrow.{IsPastAmong, AreNarrow, all_narrow_or_past}
 
 module _ (rows : List PowerMap) (start : Kept) where
   -- what is kept after the first k rows, of which these units are the solution
