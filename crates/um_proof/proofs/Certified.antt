@@ -25,10 +25,10 @@ use Rattle.um_check.specs.Laws.{Gives}
 use Rattle.um_check.proofs.Returns.{valid_yes_is_exact}
 use Rattle.um_declared.specs.Laws.{RowsHoldDeclaredUnits, TypesHoldDeclaredUnits}
 use Rattle.um_proof.specs.Proving.{IsYesOf}
-use Rattle.um_certified.specs.Laws.{HoldDeclaredUnits, CertifiedSchemesArePrincipal, CertificatesShowPrincipalSchemes}
-use Rattle.um_certified.proofs.Instantiated.{given_is}
-use Rattle.um_certified.proofs.MovedTypes.{unit_moved, signature_moved}
-use Rattle.um_certified.proofs.Rigid.{put_back, apart_units, gives_back, apart_rigid, apart_joint}
+use Rattle.um_proof.specs.Laws.{HoldDeclaredUnits, CertifiedOverDeclaredUnits, CertificatesShowPrincipalSchemes}
+use Rattle.um_proof.proofs.Instantiated.{given_is}
+use Rattle.um_proof.proofs.MovedTypes.{unit_moved, signature_moved}
+use Rattle.um_proof.proofs.Rigid.{put_back, apart_units, gives_back, apart_rigid, apart_joint}
 
 module _ (p : ProgramTree) (schemes : List SchemeTree) (i : ℕ) (f : FunctionTree) (declared : slice_get p.functions i ≡ Some f) (closed : LiteralsAreClosed f.body) (have : HaveSchemes p schemes i) (holds : HoldDeclaredUnits p schemes i f) where
   abbrev bases : ℕ
@@ -119,8 +119,8 @@ module _ (p : ProgramTree) (schemes : List SchemeTree) (i : ℕ) (f : FunctionTr
         let r = rigid_solution f.units w.0 c.rigid w.1 valid.general in
         subst (λ o. TypingAt bases p.records (typings_below p i) i o g) (sym declared) (typing_of g w.0 r.0 w.1 r.1 r.2 w.2)
 
-pub certified_schemes_are_principal : CertifiedSchemesArePrincipal
-certified_schemes_are_principal p schemes i f declared closed have holds s c valid = record {
+pub certified_over_declared_units : CertifiedOverDeclaredUnits
+certified_over_declared_units p schemes i f declared closed have holds s c valid = record {
   below = valid.own;
   instances = λ g. (typed_instance p schemes i f declared closed have holds s c valid g, instance_typed p schemes i f declared closed have holds s c valid g);
 }
@@ -130,4 +130,4 @@ certificates_show_principal_schemes literals rows types p n schemes i f formed s
     let all = have_schemes p n schemes (first_are_principal p formed n schemes few inferred) in
     let have : HaveSchemes p schemes i = λ j below. all j (omega (arith, below, within)) in
     let holds : HoldDeclaredUnits p schemes i f = record { rows = rows p n schemes i f formed shaped few inferred within declared; types = types p n schemes i f formed shaped few inferred within declared } in
-    certified_schemes_are_principal p schemes i f declared (literals p i formed i f (omega arith) declared) have holds s c valid
+    certified_over_declared_units p schemes i f declared (literals p i formed i f (omega arith) declared) have holds s c valid

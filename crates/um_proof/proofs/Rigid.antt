@@ -15,8 +15,8 @@ use Rattle.um_tree.specs.Formed.{BasesBelow}
 use Rattle.um_tree.proofs.Homomorphisms.{h-one, h-replace}
 use Rattle.um_rows.specs.Solutions.{IsRigid}
 use Rattle.um_rows.proofs.Variables.{replace_alike_below}
-use Rattle.um_certified.proofs.Instantiated.{spread, spread-mul, given, given_is, given_parameter, given_back}
-use Rattle.um_certified.proofs.Products.{quotient_taken, alone, product_put, alone_changed}
+use Rattle.um_proof.proofs.Instantiated.{spread, spread-mul, given, given_is, given_parameter, given_back}
+use Rattle.um_proof.proofs.Products.{quotient_taken, alone, product_put, alone_changed}
 
 module _ (bases parameters slots : ℕ) (us rs : List PowerMap) (rigid : IsRigid bases parameters rs) (within : parameters ≤ slots) where
   -- the change that puts the units of the first solution for unit parameters
