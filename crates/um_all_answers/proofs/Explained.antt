@@ -29,7 +29,7 @@ use Rattle.um_sites.specs.NameDetails.{name_details}
 use Rattle.um_mismatch.specs.ShapeDetails.{shape_details}
 use Rattle.um_types.specs.declared.parse.LimitKind.TheVariants as limit
 use Rattle.um_unit_lines.specs.UnitsDetails.{reason_text}
-use Rattle.um_each_reason.specs.Laws.{RefusalsHaveReasons}
+use Rattle.um_unit_reasons.specs.Laws.{RefusalsHaveReasons}
 use Rattle.um_reports.specs.declared.status.Status.{Status}
 use Rattle.um_reports.specs.declared.status.Status.TheVariants.{Done, TooLong}
 use Rattle.um_reports.specs.Refusals.{IsTextReply, IsParseReply, IsNameReply, IsShapeReply}

@@ -8,7 +8,7 @@ pub fn each_is_answered()
     um_parse::laws::each_list_is_answered();
     um_shape::shapes_of_programs();
     um_infer::laws::stops();
-    um_each_reason::laws::refusals_have_reasons();
+    um_unit_reasons::laws::refusals_have_reasons();
     um_each_answer::laws::answers_exist();
     um_each_answer::laws::images_are_written();
     um_each_answer::laws::texts_are_proved();

@@ -29,7 +29,7 @@ use Rattle.um_elim.proofs.EndLaws.{unsolvable_end, pivot_is_one, one_solves, aft
 use Rattle.um_elim.proofs.MostGeneral.{IsSound, after}
 use Rattle.um_elim.proofs.Rows.{length-solved, exactly-more, unsolvable-more}
 use Rattle.um_elim.proofs.Slots.{length-rigid, rigid_is_general}
-use Rattle.um_each_reason.specs.Laws.{RowsAreDecided}
+use Rattle.um_unit_reasons.specs.Laws.{RowsAreDecided}
 
 -- ---- one step, as in the elimination with a bound
 

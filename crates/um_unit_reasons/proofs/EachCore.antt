@@ -15,7 +15,7 @@ use Rattle.um_equal_types.specs.declared.row.Row.{Row}
 use Rattle.um_equal_types.specs.Steps.{units_of}
 use Rattle.um_core.specs.Core.{picked, IsSolvableWith, IsSolvableList, IsNextRow, IsGrown, IsCore}
 use Rattle.um_core.specs.Laws.{EndsUnsolvable}
-use Rattle.um_each_reason.proofs.WideRows.{rows_are_decided}
+use Rattle.um_unit_reasons.proofs.WideRows.{rows_are_decided}
 
 -- ---- what holds of rows holds of those that are picked
 

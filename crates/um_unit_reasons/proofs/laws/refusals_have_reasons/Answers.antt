@@ -1,6 +1,6 @@
-use Rattle.um_each_reason.proofs.WideRows.{rows_are_decided}
-use Rattle.um_each_reason.proofs.Reasons.{refusals_have_reasons}
-use Rattle.um_each_reason.proofs.laws.refusals_have_reasons.Goals as goal
+use Rattle.um_unit_reasons.proofs.WideRows.{rows_are_decided}
+use Rattle.um_unit_reasons.proofs.EachReason.{refusals_have_reasons}
+use Rattle.um_unit_reasons.proofs.laws.refusals_have_reasons.Goals as goal
 
 pub returns-clause-decided : goal.returns-clause-decided
 returns-clause-decided c = rows_are_decided

@@ -33,8 +33,8 @@ use Rattle.um_unit_reasons.specs.UnitReasons.{UnitReason, out_of_range, nth_agre
 use Rattle.um_unit_reasons.specs.VariableNames.{function_variables}
 use Rattle.um_unit_reasons.specs.Answers.{IsRefused}
 use Rattle.um_unit_reasons.proofs.FunctionFacts.{refused_by, have}
-use Rattle.um_each_reason.specs.Laws.{RefusalsHaveReasons}
-use Rattle.um_each_reason.proofs.Cores.{front_below, has_core}
+use Rattle.um_unit_reasons.specs.Laws.{RefusalsHaveReasons}
+use Rattle.um_unit_reasons.proofs.EachCore.{front_below, has_core}
 
 -- ---- an agreement of the core that is out of range
 
