@@ -1,6 +1,6 @@
 use Rattle.um_infer.proofs.PrincipalSchemes.{have_schemes}
-use Rattle.um_any_schemes.proofs.AnySchemes.{same_first_row, same_solvable}
-use Rattle.um_any_schemes.proofs.laws.first_rows.Goals as goal
+use Rattle.um_infer.proofs.AnySchemes.{same_first_row, same_solvable}
+use Rattle.um_infer.proofs.laws.first_rows.Goals as goal
 
 pub returns-clause-row : goal.returns-clause-row
 returns-clause-row c = λ p schemes others i f have also k at.

@@ -34,8 +34,8 @@ use Rattle.um_rows.proofs.FunctionLaws.{callee_below}
 use Rattle.um_rows.proofs.SlotLaws.{slot_values, hole_value, name_value, length-first, nth-first}
 use Rattle.um_rows.proofs.Solved.{all_fit, rows_hold_slots}
 use Rattle.um_rows.proofs.Variables.{CalleeBelow, replace_alike_below}
-use Rattle.um_any_schemes.proofs.ReplacedSteps.{replaced_steps, replaced_row, replaced_rows, equations_put}
-use Rattle.um_any_schemes.proofs.OtherHoles.{OffersAll, Found, Shifted, note_shifted, notes_shifted, result_shifted, found}
+use Rattle.um_infer.proofs.ReplacedSteps.{replaced_steps, replaced_row, replaced_rows, equations_put}
+use Rattle.um_infer.proofs.OtherHoles.{OffersAll, Found, Shifted, note_shifted, notes_shifted, result_shifted, found}
 
 -- ---- lists
 
