@@ -43,8 +43,8 @@ use Rattle.um_explain_answers.specs.NameRest.{IsNameRest, IsShapeRest}
 use Rattle.um_explain_answers.specs.SchemeRest.{function_place}
 use Rattle.um_explain_answers.specs.Stages.{AfterShapes, FollowsLine}
 use Rattle.um_explain_answers.specs.ExplainAnswer.{is_explained, Explains, ExplainAnswer}
-use Rattle.um_each_answer.specs.Answered.{HasAnswer}
-use Rattle.um_each_answer.specs.Laws.{EachTextHasStages}
+use Rattle.um_all_answers.specs.Answered.{HasAnswer}
+use Rattle.um_all_answers.specs.TextLaws.{EachTextHasStages}
 use Rattle.um_all_answers.proofs.Expected.{expected}
 
 -- some text is this
