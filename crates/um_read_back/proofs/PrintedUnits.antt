@@ -21,9 +21,9 @@ use Rattle.um_tree.specs.Formed.{BasesBelow}
 use Rattle.um_elim.proofs.Cases.{on_test}
 use Rattle.um_show.specs.UnitText.{base_name, variable_text, exponent_text, stands_before, with_term, ordered_terms, is_factor, is_divisor, atom_text, factor_text, factors_text, divisors_text, terms_text, unit_text}
 use Rattle.um_read_back.proofs.UnitSizes.{size_in, ordered_power, power_split}
-use Rattle.um_certificate_texts.specs.Laws.{FitsUnit}
-use Rattle.um_certificate_texts.proofs.Cuts.{Lacks, Begins, cut, lacks-append, lacks_decimal, no_decimal, AreWords, no_front, joined_cut, first_cut, AllLack, joined_lacks}
-use Rattle.um_certificate_texts.proofs.Names.{IsMark, ArePlain}
+use Rattle.um_read_back.specs.CertificateLaws.{FitsUnit}
+use Rattle.um_read_back.proofs.Cuts.{Lacks, Begins, cut, lacks-append, lacks_decimal, no_decimal, AreWords, no_front, joined_cut, first_cut, AllLack, joined_lacks}
+use Rattle.um_read_back.proofs.Names.{IsMark, ArePlain}
 
 -- ---- the marks
 

@@ -18,7 +18,7 @@ use Rattle.um_tree.specs.ProgramTree.{FunctionTree, RecordTree, ProgramTree}
 use Rattle.um_tree.specs.Formed.{starts_name, AllContinue, IsIdentifier, IsNameBytes, IsFormed}
 use Rattle.um_show.specs.UnitText.{base_name}
 use Rattle.um_certificates.specs.CertificateText.{parameter_name, with_parameters, name_of, function_name}
-use Rattle.um_certificate_texts.proofs.Cuts.{Lacks, lacks_decimal}
+use Rattle.um_read_back.proofs.Cuts.{Lacks, lacks_decimal}
 
 -- ---- marks, which stand in no name and no number
 

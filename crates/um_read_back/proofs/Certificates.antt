@@ -12,11 +12,11 @@ use Rattle.um_show.specs.UnitText.{unit_text}
 use Rattle.um_check.specs.declared.certificate.Yes.{Yes}
 use Rattle.um_check.specs.declared.certificate.No.{No}
 use Rattle.um_certificates.specs.CertificateText.{numbered, with_parameters, function_name, heading, open_text, rigid_text, yes_text, kind_text, no_text, parts_text, refusal_text}
-use Rattle.um_certificate_texts.specs.Laws.{FitsUnit, FitsYes, FitsNo, FitsRefusal, IsNamed, TextsDetermineCertificates}
-use Rattle.um_certificate_texts.proofs.Cuts.{cut, decimal_cut, signed_cut, AllLack}
-use Rattle.um_certificate_texts.proofs.Names.{ArePlain, bases_plain, parameters_plain, function_lacks, name_apart}
-use Rattle.um_certificate_texts.proofs.UnitTexts.{unit_lacks, unit_told}
-use Rattle.um_certificate_texts.proofs.Lines.{IsApart, Differ, unit_lines, units_cut, units_apart, parts_lack, parts_told, row_lines, rows_apart, rows_cut}
+use Rattle.um_read_back.specs.CertificateLaws.{FitsUnit, FitsYes, FitsNo, FitsRefusal, IsNamed, TextsDetermineCertificates}
+use Rattle.um_read_back.proofs.Cuts.{cut, decimal_cut, signed_cut, AllLack}
+use Rattle.um_read_back.proofs.Names.{ArePlain, bases_plain, parameters_plain, function_lacks, name_apart}
+use Rattle.um_read_back.proofs.PrintedUnits.{unit_lacks, unit_told}
+use Rattle.um_read_back.proofs.Lines.{IsApart, Differ, unit_lines, units_cut, units_apart, parts_lack, parts_told, row_lines, rows_apart, rows_cut}
 
 -- ---- all units of a list
 module _ (bases : List (List ℕ)) (n : ℕ) (names : ArePlain bases n) where

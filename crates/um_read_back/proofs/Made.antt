@@ -16,8 +16,8 @@ use Rattle.um_check.specs.declared.certificate.Yes.{Yes}
 use Rattle.um_check.specs.Validity.{ShowsGeneral}
 use Rattle.um_proof.specs.declared.proofs.Proofs.{Proofs}
 use Rattle.um_proof.specs.Proving.{AreProofs, AreTidyProofs, rows_at, slots_at}
-use Rattle.um_certificate_texts.specs.Laws.{IsNamed, TextsDetermineProofs}
-use Rattle.um_certificate_texts.proofs.Certificates.{texts_determine_certificates}
+use Rattle.um_read_back.specs.CertificateLaws.{IsNamed, TextsDetermineProofs}
+use Rattle.um_read_back.proofs.Certificates.{texts_determine_certificates}
 
 -- ---- there are no more schemes than functions
 module _ (p : ProgramTree) where

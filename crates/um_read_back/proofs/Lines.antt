@@ -10,8 +10,8 @@ use Rattle.um_units.specs.PowerMap.{PowerMap}
 use Rattle.um_show.specs.UnitText.{unit_text}
 use Rattle.um_check.specs.declared.certificate.Part.{Part}
 use Rattle.um_certificates.specs.CertificateText.{numbered, unit_line, part_text, parts_text, rows_line}
-use Rattle.um_certificate_texts.specs.Laws.{FitsPart}
-use Rattle.um_certificate_texts.proofs.Cuts.{Lacks, cut, lacks-append, lacks_decimal, lacks_signed, decimal_cut, no_decimal, AreWords, no_front, joined_cut, AllLack, joined_lacks}
+use Rattle.um_read_back.specs.CertificateLaws.{FitsPart}
+use Rattle.um_read_back.proofs.Cuts.{Lacks, cut, lacks-append, lacks_decimal, lacks_signed, decimal_cut, no_decimal, AreWords, no_front, joined_cut, AllLack, joined_lacks}
 
 -- the text doesn't begin with the word
 abbrev pub IsApart : List ℕ → List ℕ → Type 0
