@@ -10,8 +10,8 @@ use Rattle.um_shape.specs.FirstFault.{first_fault}
 use Rattle.um_tidy.specs.declared.stand.Next.{Next}
 use Rattle.um_tidy.specs.declared.stand.Within.{Within}
 use Rattle.um_tidy.specs.Stands.{start, kind_stand}
-use Rattle.um_spaced.proofs.Alike.{Alike}
-use Rattle.um_spaced.proofs.DeclsStay.{all_stays}
+use Rattle.um_tidy.proofs.Alike.{Alike}
+use Rattle.um_tidy.proofs.DeclsStay.{all_stays}
 use Rattle.um_scale.specs.RescaledLiterals.{misfit_in, rescaled_program}
 use Rattle.um_scale.specs.Sizes.{sizes}
 use Rattle.um_scale.proofs.Rescaled.{program_rescaled}

@@ -13,19 +13,19 @@ use Rattle.um_forms.specs.ExprTokens.{expr_token}
 use Rattle.um_expr.specs.ExprGrammar.{AfterNumber, NilSpells, Spells, AllSpell, MoreItems, MoreFields, IsAny, Fits, AreAtoms, AllFit, FieldsFit, rank}
 use Rattle.um_expr.proofs.ExprTokenKinds.{mark_is, equal_is}
 use Rattle.um_expr.proofs.ExprAtEnd.{after_more}
-use Rattle.um_spaced.proofs.Leaves.{Leaves, leaves_then, leaves_first, leaves_at, leaves_expr, leaves_sign, leaves_empty_arm, leaves_full_arm}
+use Rattle.um_tidy.proofs.Leaves.{Leaves, leaves_then, leaves_first, leaves_at, leaves_expr, leaves_sign, leaves_empty_arm, leaves_full_arm}
 use Rattle.um_show.specs.Unplaced.{bare_binder, bare_expr, bare_exprs, bare_fields}
 use Rattle.um_tidy.specs.declared.stand.Next.{Next}
 use Rattle.um_tidy.specs.declared.stand.Next.TheVariants as next_of
 use Rattle.um_tidy.specs.declared.stand.Within.TheVariants as within_of
 use Rattle.um_tidy.specs.declared.stand.Stand.{Stand}
 use Rattle.um_tidy.proofs.StandAgain.{is_number_next}
-use Rattle.um_spaced.proofs.SpacedPieces.{never, is_naming, is_operand, operand_names, named_operand, bracket_binds}
-use Rattle.um_spaced.proofs.TokenKinds.{name_is, word_is, number_is, truth_word, truth_is, operator_is}
-use Rattle.um_spaced.proofs.Alike.{step}
-use Rattle.um_spaced.proofs.TypesStay.{type_stays}
-use Rattle.um_spaced.proofs.InfixStays.{Here, and_stays, arith_stays, compare_stays, cons_stays, minus_next, minus_within, or_stays}
-use Rattle.um_spaced.proofs.PartsStay.{binder_stays, bound_head, bound_heads, bound_plain, empty_arm_stays, full_arm_stays, head_equal, head_within, power_stays, truth_next, truth_within, written_stays}
+use Rattle.um_tidy.proofs.SpacedPieces.{never, is_naming, is_operand, operand_names, named_operand, bracket_binds}
+use Rattle.um_tidy.proofs.TokenKinds.{name_is, word_is, number_is, truth_word, truth_is, operator_is}
+use Rattle.um_tidy.proofs.Alike.{step}
+use Rattle.um_tidy.proofs.TypesStay.{type_stays}
+use Rattle.um_tidy.proofs.InfixStays.{Here, and_stays, arith_stays, compare_stays, cons_stays, minus_next, minus_within, or_stays}
+use Rattle.um_tidy.proofs.PartsStay.{binder_stays, bound_head, bound_heads, bound_plain, empty_arm_stays, full_arm_stays, head_equal, head_within, power_stays, truth_next, truth_within, written_stays}
 
 pub record ExprStays (e : ExprSyntax) (tokens rest others : List Token) : Type 0 where
   pub again : ExprSyntax

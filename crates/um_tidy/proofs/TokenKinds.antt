@@ -16,7 +16,7 @@ use Rattle.um_forms.specs.declared.token.ExprToken.TheVariants.{Truth as truth, 
 use Rattle.um_forms.specs.declared.token.ExprToken.TheVariants.{Word as word}
 use Rattle.um_forms.specs.ExprTokens.{expr_token}
 use Rattle.um_expr.specs.ExprGrammar.{bound}
-use Rattle.um_spaced.proofs.UnitsStay.{IsNumber}
+use Rattle.um_tidy.proofs.UnitsStay.{IsNumber}
 
 pub name_is : (k : Kind) (x : List ℕ) → expr_token k ≡ name x → k ≡ kind.Name x
 name_is (kind.Name y) x e = cc

@@ -20,10 +20,10 @@ use Rattle.um_tidy.specs.Spaces.{runs_into, is_spaced}
 use Rattle.um_tidy.specs.Gaps.{first_gap, inner_gap, last_gap, only_gap}
 use Rattle.um_tidy.specs.Tidied.{spelling, tidied_after, tidied_from}
 use Rattle.um_tidy.proofs.TokensAnew.{part_at}
-use Rattle.um_spaced.specs.Laws.{LayoutIsTidy}
-use Rattle.um_spaced.proofs.SpacedPieces.{Gap, joined, parted, ended, is_joined, settled, piece_stand, Stood, Spaced}
-use Rattle.um_spaced.proofs.PiecesApart.{Apart, apart_after}
-use Rattle.um_spaced.proofs.DeclsSpaced.{program_spaced}
+use Rattle.um_tidy.specs.ProgramLaws.{LayoutIsTidy}
+use Rattle.um_tidy.proofs.SpacedPieces.{Gap, joined, parted, ended, is_joined, settled, piece_stand, Stood, Spaced}
+use Rattle.um_tidy.proofs.PiecesApart.{Apart, apart_after}
+use Rattle.um_tidy.proofs.DeclsSpaced.{program_spaced}
 
 abbrev gap_text : Gap → List ℕ
 gap_text joined = []

@@ -11,8 +11,8 @@ use Rattle.um_tidy.specs.declared.stand.Next.TheVariants as next_of
 use Rattle.um_tidy.specs.declared.stand.Within.TheVariants as within_of
 use Rattle.um_tidy.specs.declared.stand.Stand.{Stand}
 use Rattle.um_tidy.specs.Stands.{apart, after, before, between, has_ended, opens_units, greater_stand, less_stand}
-use Rattle.um_spaced.proofs.SpacedPieces.{joined, gap_of, standing, Spaced, joins, never, first, sign_step, is_typed, ended_measure}
-use Rattle.um_spaced.proofs.UnitsSpaced.{UnitSpaced, unit_spaced}
+use Rattle.um_tidy.proofs.SpacedPieces.{joined, gap_of, standing, Spaced, joins, never, first, sign_step, is_typed, ended_measure}
+use Rattle.um_tidy.proofs.UnitsSpaced.{UnitSpaced, unit_spaced}
 
 -- behind these pieces a type has ended
 pub record TypeSpaced (b : Bool) (ps : List Piece) : Type 0 where

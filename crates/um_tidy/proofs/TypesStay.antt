@@ -12,10 +12,10 @@ use Rattle.um_tidy.specs.declared.stand.Next.TheVariants as next_of
 use Rattle.um_tidy.specs.declared.stand.Within.TheVariants as within_of
 use Rattle.um_tidy.specs.declared.stand.Stand.{Stand}
 use Rattle.um_tidy.specs.Stands.{has_ended}
-use Rattle.um_spaced.proofs.SpacedPieces.{is_typed}
-use Rattle.um_spaced.proofs.TypesSpaced.{greater_is}
-use Rattle.um_spaced.proofs.Alike.{Stays, Alike, step}
-use Rattle.um_spaced.proofs.UnitsStay.{unit_stays}
+use Rattle.um_tidy.proofs.SpacedPieces.{is_typed}
+use Rattle.um_tidy.proofs.TypesSpaced.{greater_is}
+use Rattle.um_tidy.proofs.Alike.{Stays, Alike, step}
+use Rattle.um_tidy.proofs.UnitsStay.{unit_stays}
 
 -- ---- notes, inside angle brackets
 

@@ -3,10 +3,10 @@ use Rattle.std.specs.Str.{chars}
 use Rattle.um_syntax.specs.Lexing.{body, body_place}
 use Rattle.um_tidy.proofs.TokensAnew.{all_of, laid_out}
 use Rattle.um_tidy.proofs.GlueAnew.{whole_stays}
-use Rattle.um_spaced.specs.Laws.{LayoutStays, ProgramStays}
-use Rattle.um_spaced.proofs.Alike.{alike_all}
-use Rattle.um_spaced.proofs.DeclsStay.{all_stays}
-use Rattle.um_spaced.proofs.BareLayouts.{same_layout}
+use Rattle.um_tidy.specs.ProgramLaws.{LayoutStays, ProgramStays}
+use Rattle.um_tidy.proofs.Alike.{alike_all}
+use Rattle.um_tidy.proofs.DeclsStay.{all_stays}
+use Rattle.um_tidy.proofs.BareLayouts.{same_layout}
 
 pub program_stays : ProgramStays
 program_stays text tokens ds answer program =

@@ -23,13 +23,13 @@ use Rattle.um_tidy.specs.declared.stand.Within.TheVariants as within_of
 use Rattle.um_tidy.specs.declared.stand.Stand.{Stand}
 use Rattle.um_tidy.specs.Stands.{hole_stand, less_stand, kind_stand}
 use Rattle.um_tidy.proofs.StandAgain.{is_number_next, is_less}
-use Rattle.um_spaced.proofs.SpacedPieces.{never, is_operand, operand_names, named, bracket_binds}
-use Rattle.um_spaced.proofs.TypesSpaced.{greater_is as angle_is}
-use Rattle.um_spaced.proofs.TokenKinds.{word_is, truth_word, bound_kind, bound_is, operator_is}
-use Rattle.um_spaced.proofs.Alike.{step}
-use Rattle.um_spaced.proofs.UnitsStay.{IsNumber}
-use Rattle.um_spaced.proofs.TypesStay.{note_stays}
-use Rattle.um_spaced.proofs.InfixStays.{Here}
+use Rattle.um_tidy.proofs.SpacedPieces.{never, is_operand, operand_names, named, bracket_binds}
+use Rattle.um_tidy.proofs.TypesSpaced.{greater_is as angle_is}
+use Rattle.um_tidy.proofs.TokenKinds.{word_is, truth_word, bound_kind, bound_is, operator_is}
+use Rattle.um_tidy.proofs.Alike.{step}
+use Rattle.um_tidy.proofs.UnitsStay.{IsNumber}
+use Rattle.um_tidy.proofs.TypesStay.{note_stays}
+use Rattle.um_tidy.proofs.InfixStays.{Here}
 
 -- ---- what is bound
 

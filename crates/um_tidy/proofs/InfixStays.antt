@@ -13,20 +13,20 @@ use Rattle.um_forms.specs.declared.token.ExprToken.TheVariants.{Operator as oper
 use Rattle.um_forms.specs.ExprTokens.{expr_token}
 use Rattle.um_expr.specs.ExprGrammar.{FirstAt, AfterNumber, InfixAt}
 use Rattle.um_expr.proofs.ExprTokenKinds.{greater_is, equal_is}
-use Rattle.um_spaced.proofs.Leaves.{Leaves}
+use Rattle.um_tidy.proofs.Leaves.{Leaves}
 use Rattle.um_tidy.specs.declared.stand.Next.{Next}
 use Rattle.um_tidy.specs.declared.stand.Next.TheVariants as next_of
 use Rattle.um_tidy.specs.declared.stand.Within.TheVariants as within_of
 use Rattle.um_tidy.specs.declared.stand.Stand.{Stand}
 use Rattle.um_tidy.specs.Stands.{apart, before, has_ended, opens_units, less_stand, minus_stand, kind_stand}
 use Rattle.um_tidy.proofs.StandAgain.{is_number_next, is_less}
-use Rattle.um_spaced.proofs.SpacedPieces.{never, is_naming, is_operand, operand_ended}
-use Rattle.um_spaced.proofs.ExprsSpaced.{minus_is}
-use Rattle.um_spaced.proofs.ExprsSpaced.{greater_is as greater_stands, equal_is as equal_stands}
-use Rattle.um_spaced.proofs.TokenKinds.{infix_symbol, operator_is}
-use Rattle.um_spaced.proofs.Alike.{Alike, is_equal, step}
-use Rattle.um_spaced.proofs.AfterNumbers.{alike_length, less_stays}
-use Rattle.um_spaced.proofs.UnitsStay.{next_either, within_either}
+use Rattle.um_tidy.proofs.SpacedPieces.{never, is_naming, is_operand, operand_ended}
+use Rattle.um_tidy.proofs.ExprsSpaced.{minus_is}
+use Rattle.um_tidy.proofs.ExprsSpaced.{greater_is as greater_stands, equal_is as equal_stands}
+use Rattle.um_tidy.proofs.TokenKinds.{infix_symbol, operator_is}
+use Rattle.um_tidy.proofs.Alike.{Alike, is_equal, step}
+use Rattle.um_tidy.proofs.AfterNumbers.{alike_length, less_stays}
+use Rattle.um_tidy.proofs.UnitsStay.{next_either, within_either}
 
 abbrev pub Here : List Token → Next → List Token → Type 0
 Here tokens n others = Alike tokens n within_of.Plain others

@@ -18,15 +18,15 @@ use Rattle.um_tidy.specs.declared.stand.Within.{Within}
 use Rattle.um_tidy.specs.declared.stand.Within.TheVariants as within_of
 use Rattle.um_tidy.specs.declared.stand.Stand.{Stand}
 use Rattle.um_tidy.specs.Stands.{may_begin, in_attribute, attribute_stand, kind_stand}
-use Rattle.um_spaced.proofs.SpacedPieces.{is_typed, operand_ended, bracket_binds}
-use Rattle.um_spaced.proofs.DeclsSpaced.{typed_names, colon_is, ended_begins}
-use Rattle.um_spaced.proofs.DeclsSpaced.{equal_is as equal_stands}
-use Rattle.um_spaced.proofs.TokenKinds.{name_is, variable_is, word_is, bound_kind, operator_is}
-use Rattle.um_spaced.proofs.Alike.{Alike, step}
-use Rattle.um_spaced.proofs.UnitsStay.{unit_stays}
-use Rattle.um_spaced.proofs.TypesStay.{type_stays}
-use Rattle.um_spaced.proofs.PartsStay.{binder_stays, bound_plain}
-use Rattle.um_spaced.proofs.ExprsStay.{expr_stays}
+use Rattle.um_tidy.proofs.SpacedPieces.{is_typed, operand_ended, bracket_binds}
+use Rattle.um_tidy.proofs.DeclsSpaced.{typed_names, colon_is, ended_begins}
+use Rattle.um_tidy.proofs.DeclsSpaced.{equal_is as equal_stands}
+use Rattle.um_tidy.proofs.TokenKinds.{name_is, variable_is, word_is, bound_kind, operator_is}
+use Rattle.um_tidy.proofs.Alike.{Alike, step}
+use Rattle.um_tidy.proofs.UnitsStay.{unit_stays}
+use Rattle.um_tidy.proofs.TypesStay.{type_stays}
+use Rattle.um_tidy.proofs.PartsStay.{binder_stays, bound_plain}
+use Rattle.um_tidy.proofs.ExprsStay.{expr_stays}
 
 -- ---- `[<Measure>]`
 

@@ -9,7 +9,7 @@ use Rattle.um_tidy.specs.declared.stand.Next.{Next}
 use Rattle.um_tidy.specs.declared.stand.Next.TheVariants as next_of
 use Rattle.um_tidy.specs.declared.stand.Within.{Within}
 use Rattle.um_tidy.specs.Stands.{apart, before, between, has_ended, in_unit, star_stand, slash_stand}
-use Rattle.um_spaced.proofs.SpacedPieces.{joined, parted, gap_of, standing, Spaced, joins, never, first, sign_step, name_step, named, bracketed}
+use Rattle.um_tidy.proofs.SpacedPieces.{joined, parted, gap_of, standing, Spaced, joins, never, first, sign_step, name_step, named, bracketed}
 
 -- behind these pieces, that stand inside units, an operand has ended
 pub record UnitSpaced (b : Bool) (n : Next) (w : Within) (ps : List Piece) : Type 0 where

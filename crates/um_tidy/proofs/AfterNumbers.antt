@@ -14,7 +14,7 @@ use Rattle.um_tidy.specs.declared.stand.Within.{Within}
 use Rattle.um_tidy.specs.Stands.{kind_stand}
 use Rattle.um_tidy.specs.Laws.{kinds}
 use Rattle.um_tidy.proofs.StandAgain.{is_number_next, is_less}
-use Rattle.um_spaced.proofs.Alike.{Stays, Alike}
+use Rattle.um_tidy.proofs.Alike.{Stays, Alike}
 
 -- ---- what the table holds behind tokens
 

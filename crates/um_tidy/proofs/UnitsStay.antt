@@ -16,8 +16,8 @@ use Rattle.um_tidy.specs.declared.stand.Next.TheVariants as next_of
 use Rattle.um_tidy.specs.declared.stand.Within.{Within}
 use Rattle.um_tidy.specs.declared.stand.Stand.{Stand}
 use Rattle.um_tidy.specs.Stands.{apart, before, between, has_ended, in_unit, star_stand, slash_stand}
-use Rattle.um_spaced.proofs.SpacedPieces.{named, bracketed}
-use Rattle.um_spaced.proofs.Alike.{Alike, step}
+use Rattle.um_tidy.proofs.SpacedPieces.{named, bracketed}
+use Rattle.um_tidy.proofs.Alike.{Alike, step}
 
 -- ---- the kind of a token of a unit text
 

@@ -17,9 +17,9 @@ use Rattle.um_tidy.specs.declared.stand.Next.TheVariants as next_of
 use Rattle.um_tidy.specs.declared.stand.Within.TheVariants as within_of
 use Rattle.um_tidy.specs.declared.stand.Stand.{Stand}
 use Rattle.um_tidy.specs.Stands.{apart, after, before, has_ended, let_stand, less_stand, minus_stand, greater_stand, equal_stand}
-use Rattle.um_spaced.proofs.SpacedPieces.{joined, parted, gap_of, Spaced, joins, never, first, sign_step, name_step, is_naming, is_operand, operand_ended, operand_names, operand_opens, ended_measure, named_operand, bracket_binds}
-use Rattle.um_spaced.proofs.UnitsSpaced.{not_so}
-use Rattle.um_spaced.proofs.TypesSpaced.{plain, angle_spaced, type_spaced}
+use Rattle.um_tidy.proofs.SpacedPieces.{joined, parted, gap_of, Spaced, joins, never, first, sign_step, name_step, is_naming, is_operand, operand_ended, operand_names, operand_opens, ended_measure, named_operand, bracket_binds}
+use Rattle.um_tidy.proofs.UnitsSpaced.{not_so}
+use Rattle.um_tidy.proofs.TypesSpaced.{plain, angle_spaced, type_spaced}
 
 -- behind these pieces an operand has ended
 pub record ExprSpaced (b : Bool) (n : Next) (ps : List Piece) : Type 0 where

@@ -9,7 +9,7 @@ use Rattle.um_show.proofs.PieceTokens.{IsKind}
 use Rattle.um_show.proofs.Chain.{Place, fresh, full, raised, lowered, pointed, lowering, role, after_role, after, is_fresh, takes_digit, takes_sign, may}
 use Rattle.um_show.proofs.Opens.{is_token}
 use Rattle.um_tidy.specs.Spaces.{goes_on, is_dot, sign_runs_into, begins_lettered, runs_into}
-use Rattle.um_spaced.proofs.SpacedPieces.{never}
+use Rattle.um_tidy.proofs.SpacedPieces.{never}
 
 -- what may stand at the place doesn't go on the token before it
 abbrev pub Apart : Place → Kind → Type 0

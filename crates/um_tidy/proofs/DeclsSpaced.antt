@@ -16,10 +16,10 @@ use Rattle.um_tidy.specs.declared.stand.Within.{Within}
 use Rattle.um_tidy.specs.declared.stand.Within.TheVariants as within_of
 use Rattle.um_tidy.specs.declared.stand.Stand.{Stand}
 use Rattle.um_tidy.specs.Stands.{apart, before, start, has_ended, may_begin, in_attribute, keyword_stand, attribute_stand, equal_stand, colon_stand}
-use Rattle.um_spaced.proofs.SpacedPieces.{Gap, joined, parted, ended, gap_of, standing, settled, Stood, Spaced, joins, never, first, sign_step, is_naming, is_typed, operand_ended, bracket_binds}
-use Rattle.um_spaced.proofs.UnitsSpaced.{UnitSpaced, unit_spaced}
-use Rattle.um_spaced.proofs.TypesSpaced.{plain, angled, type_spaced}
-use Rattle.um_spaced.proofs.ExprsSpaced.{expr_spaced}
+use Rattle.um_tidy.proofs.SpacedPieces.{Gap, joined, parted, ended, gap_of, standing, settled, Stood, Spaced, joins, never, first, sign_step, is_naming, is_typed, operand_ended, bracket_binds}
+use Rattle.um_tidy.proofs.UnitsSpaced.{UnitSpaced, unit_spaced}
+use Rattle.um_tidy.proofs.TypesSpaced.{plain, angled, type_spaced}
+use Rattle.um_tidy.proofs.ExprsSpaced.{expr_spaced}
 
 -- ---- behind a type or a name that units may follow
 
