@@ -165,6 +165,6 @@ pub fn types_of(
 {
     let tables = heads(alloc, program, abbreviations)?;
     let found = signature(alloc, &tables, &raw.items);
-    drop(tables);
+    tables.discard();
     found
 }
