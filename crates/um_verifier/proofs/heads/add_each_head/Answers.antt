@@ -11,7 +11,7 @@ use Rattle.um_verifier.specs.declared.known.KnownHead.{KnownHead}
 use Rattle.um_verifier.specs.declared.known.Known.{Known}
 use Rattle.um_verifier.proofs.Firsts.{hold_next, all_hold}
 use Rattle.um_verifier.proofs.FunctionHeads.{HeadFound, trees, head_there, plain_at, entry_there, is_first, is_found, takes_next, all_take, entry_within, function_first}
-use Rattle.um_verifier.proofs.heads.add_heads.Goals as goal
+use Rattle.um_verifier.proofs.heads.add_each_head.Goals as goal
 
 pub bounds-entries-k : goal.bounds-entries-k
 bounds-entries-k c = entry_within c.as_slice-entries.result.now c.args.image.now.code.entries c.deref-heads.result.now c.args.image.now.heads.items.items c.loop-k.k c.as_slice-entries.ensures c.deref-heads.ensures.value c.requires.form.entries c.loop-k-test.true
@@ -21,8 +21,8 @@ checked_head-requires c =
     let hs = c.deref-heads.result.now in
     record { plain = plain_at hs c.args.image.now.heads.items.items c.loop-k.k c.index-heads-k.result c.deref-heads.ensures.value c.requires.form.heads c.loop-k-test.true c.index-heads-k.is }
 
-pub returns-in-None : goal.returns-in-None
-returns-in-None c =
+pub returns-in-None-clause-refusal : goal.returns-in-None-clause-refusal
+returns-in-None-clause-refusal c =
     let image = image_tree c.args.image.now in
     let items = c.args.image.now.heads.items.items in
     let records = c.args.image.now.records.items in
@@ -63,8 +63,8 @@ loop-k-preserved c =
       hold = hold_next (FunctionHolds image) image.heads k h there c.loop-k.invariant.hold finds.holds;
     }
 
-pub returns : goal.returns
-returns c =
+pub returns-clause-heads : goal.returns-clause-heads
+returns-clause-heads c =
     let image = image_tree c.args.image.now in
     let items = c.args.image.now.heads.items.items in
     let k = c.loop-k.k in

@@ -2,7 +2,7 @@ use Rattle.um_verify.specs.ImageTree.{image_tree}
 use Rattle.um_verify.specs.Heads.{FunctionHolds}
 use Rattle.um_verifier.specs.KnownHeads.{TakesHeads}
 use Rattle.um_verifier.proofs.Firsts.{HoldBefore}
-use Rattle.um_verifier.proofs.heads.add_heads.Given as goal
+use Rattle.um_verifier.proofs.heads.add_each_head.Given as goal
 
 abbrev pub invariant-loop-k : goal.invariant-loop-k
 invariant-loop-k l = record {
