@@ -5,7 +5,7 @@ use Rattle.um_pivots.specs.Pivot.{least_power}
 use Rattle.um_kept.specs.Kept.{Kept}
 use Rattle.um_kept.specs.Answers.{Agrees}
 use Rattle.um_kept.specs.Steps.{IsRowUnderWay}
-use Rattle.um_kept.proofs.row.make_row.Given as goal
+use Rattle.um_kept.proofs.row.make_steps.Given as goal
 
 abbrev pub invariant-loop-r : goal.invariant-loop-r
 invariant-loop-r l = record {
