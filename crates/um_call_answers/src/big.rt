@@ -141,10 +141,37 @@ fn different_schemes(alloc: Global, program: &Program, schemes: &Schemes) -> Res
     let mut texts = NameTable::new(alloc);
     let schemes: &[Scheme] = &schemes.items;
     for scheme in schemes {
-        let text = scheme_text(alloc, &unnamed, scheme, program)?;
-        texts.add(alloc, &text)?;
+        match add_text(alloc, &mut texts, &unnamed, scheme, program) {
+            Ok(()) => {}
+            Err(stop) => {
+                drop(texts);
+                drop(unnamed);
+                return Err(stop);
+            }
+        }
     }
-    Ok(texts.count())
+    let count = texts.count();
+    drop(texts);
+    drop(unnamed);
+    Ok(count)
+}
+
+/// Adds the text of the scheme under this name, if it isn't among the texts.
+fn add_text(
+    alloc: Global,
+    texts: &mut NameTable,
+    name: &Name,
+    scheme: &Scheme,
+    program: &Program,
+) -> Result<(), AllocError>
+    ensures { OnOk result (texts.new ≡ cond (is_among texts.old (text_of_scheme (program_tree program.now) name.now
+        (scheme_tree scheme.now))) texts.old (texts.old ++ text_of_scheme (program_tree program.now) name.now
+        (scheme_tree scheme.now) ∷ [])) }
+{
+    let text = scheme_text(alloc, name, scheme, program)?;
+    let added = texts.add(alloc, &text);
+    drop(text);
+    added
 }
 
 /// Adds the line of function k with its scheme.
