@@ -13,7 +13,7 @@ use Rattle.um_run.specs.Calls.{call_tree, call_values}
 use Rattle.um_scale.specs.RescaledLiterals.{rescaled_program}
 use Rattle.um_call_answers.specs.TwinAnswer.{rescaled_values}
 use Rattle.um_call_answers.proofs.TwinArguments.{other_arguments}
-use Rattle.um_twin_answers.proofs.twin.run_both.Goals as goal
+use Rattle.um_twin_answers.proofs.twin.run_codes.Goals as goal
 
 pub twin-requires-clause-first_arguments : goal.twin-requires-clause-first_arguments
 twin-requires-clause-first_arguments c =
