@@ -1,7 +1,8 @@
 // The answer about a generated program.
-ghost use Rattle.std.specs.Prelude.{◌≡◌, ◌≤◌, ◌<◌, ◌-◌, ◌++◌, [], ◌∷◌, IfOk, OnOk, codes, decimal, map};
+ghost use Rattle.std.specs.Prelude.{◌≡◌, ◌≤◌, ◌<◌, ◌-◌, ◌++◌, [], ◌∷◌, IfOk, OnOk, codes, cond, decimal, map};
 ghost use Rattle.std.specs.Prelude.{slice_get, string_bytes};
 ghost use Rattle.um_tree.specs.ProgramTree.{program_tree, function_tree, scheme_tree};
+ghost use Rattle.um_measures.specs.Known.{is_among};
 ghost use Rattle.um_show.specs.SchemeText.{scheme_text as text_of_scheme};
 ghost use Rattle.um_infer.specs.Answers.{scheme_trees};
 ghost use Rattle.um_front.specs.Parts.{checked_tree};
@@ -164,9 +165,8 @@ fn add_text(
     scheme: &Scheme,
     program: &Program,
 ) -> Result<(), AllocError>
-    ensures { OnOk result (texts.new ≡ cond (is_among texts.old (text_of_scheme (program_tree program.now) name.now
-        (scheme_tree scheme.now))) texts.old (texts.old ++ text_of_scheme (program_tree program.now) name.now
-        (scheme_tree scheme.now) ∷ [])) }
+    ensures { let t = text_of_scheme (program_tree program.now) name.now (scheme_tree scheme.now) in OnOk result
+        (texts.new ≡ cond (is_among texts.old t) texts.old (texts.old ++ t ∷ [])) }
 {
     let text = scheme_text(alloc, name, scheme, program)?;
     let added = texts.add(alloc, &text);
