@@ -47,7 +47,7 @@ fn report_table<R: Print + AllocGlobal>(
     report(rt, &case, total)
 }
 
-// A question is put where the next one, the next text or the table's end comes after it.
+// A question is put when the next question, the next text or the table's end comes.
 fn put_line<'a, R: Print + AllocGlobal>(
     rt: &R,
     case: &mut Case<'a>,

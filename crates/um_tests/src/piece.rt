@@ -40,13 +40,15 @@ pub fn push_piece(
     piece: &str,
     round: usize,
 ) -> Result<(), AllocError> {
-    for (escapes, part) in piece.split('\\').enumerate() {
-        let plain = if escapes == 0 {
+    let mut is_first = true;
+    for part in piece.split('\\') {
+        let plain = if is_first {
             part
         } else {
             push_escape(out, fault, part, round)?
         };
         out.extend_from_slice(plain.as_bytes())?;
+        is_first = false;
     }
     Ok(())
 }

@@ -66,7 +66,10 @@ fn report_answer<R: Print>(
     if agrees {
         return Ok(());
     }
-    let (wanted, shown) = (case.status.unwrap_or(usize::MAX), first_line(&case.answer));
+    let (wanted, shown) = (
+        case.status.unwrap_or(u8::MAX as usize),
+        first_line(&case.answer),
+    );
     println!(rt; "  THAT DIFFERS: wanted {wanted}: {shown}")?;
     Ok(())
 }

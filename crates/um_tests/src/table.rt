@@ -178,13 +178,14 @@ fn push_words(
     fault: &mut Fault,
     line: &str,
 ) -> Result<(), AllocError> {
-    for (marks, part) in line.split('"').enumerate() {
-        let is_quoted = marks % 2 == 1;
+    let mut is_quoted = false;
+    for part in line.split('"') {
         for word in part.split(if is_quoted { '"' } else { ' ' }) {
             if is_quoted || !word.is_empty() {
                 push_word(alloc, words, fault, word)?;
             }
         }
+        is_quoted = !is_quoted;
     }
     Ok(())
 }

@@ -13,11 +13,7 @@ pub fn report_turns<R: Print + AllocGlobal>(
     turns: Turns,
     total: &mut Tally,
 ) -> Result<(), Fail> {
-    let faulty = faulty_runs(case, turns);
-    let asked = match turns {
-        Turns::Prefixes(_) => faulty,
-        _ => faulty.saturating_add(1),
-    };
+    let (asked, faulty) = count_of_runs(case, turns);
     let mut agree: usize = 0;
     for turn in 0..asked {
         if turn_agrees(rt.alloc(), case, turns, turn, faulty)? {
@@ -30,15 +26,16 @@ pub fn report_turns<R: Print + AllocGlobal>(
     Ok(())
 }
 
-// How many runs meet a fault or a text that is cut off: a read for each piece of the text and one at its
-// end, a write for each piece of the answer, or each proper prefix of the text. After the reads and
-// the writes comes a run that meets no fault.
-fn faulty_runs(case: &Case, turns: Turns) -> usize {
-    match turns {
+// How many runs there are, and how many of them meet a fault or a text that is cut off: a read for each piece
+// of the text and one at its end, a write for each piece of the answer, or each proper prefix of the text. After
+// the reads and the writes comes a run that meets no fault.
+fn count_of_runs(case: &Case, turns: Turns) -> (usize, usize) {
+    let faulty = match turns {
         Turns::Reads(piece) => pieces(case.text.len(), piece).saturating_add(1),
         Turns::Writes => pieces(case.answer.len(), case.sink.piece),
-        Turns::Prefixes(_) => case.text.len(),
-    }
+        Turns::Prefixes(_) => return (case.text.len(), case.text.len()),
+    };
+    (faulty.saturating_add(1), faulty)
 }
 
 // Whether the run of one turn comes out right.
