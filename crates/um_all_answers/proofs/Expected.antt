@@ -11,7 +11,7 @@ use Rattle.um_expected.specs.declared.word.Word.{Word}
 use Rattle.um_expected.specs.declared.word.Word.TheVariants as word
 use Rattle.um_expected.specs.Words.{is_operator, operators, words}
 use Rattle.um_expected.specs.Expected.{Place, put_there, CanStand, NumberCanStand, FractionCanStand, TwoCanStand, OneCanStand, IsPower, AllOperatorsStand, IsWhole, IsExpected, AreChosen, AreExpected}
-use Rattle.um_each_image.proofs.Decisions.{Dec, both, as_well, if_so, fails, is_test, all}
+use Rattle.um_verifier.proofs.Decisions.{Dec, both, as_well, if_so, fails, is_test, all}
 
 module _ (decided : ProgramsAreDecided) (p : Place) where
   can_stand : (k : Kind) → Dec (CanStand p k)

@@ -29,7 +29,7 @@ use Rattle.um_sites.specs.NameDetails.{name_details}
 use Rattle.um_mismatch.specs.ShapeDetails.{shape_details}
 use Rattle.um_types.specs.declared.parse.LimitKind.TheVariants as limit
 use Rattle.um_unit_lines.specs.UnitsDetails.{reason_text}
-use Rattle.um_each_reason.specs.Laws.{RefusalsHaveReasons}
+use Rattle.um_unit_reasons.specs.Laws.{RefusalsHaveReasons}
 use Rattle.um_reports.specs.declared.status.Status.{Status}
 use Rattle.um_reports.specs.declared.status.Status.TheVariants.{Done, TooLong}
 use Rattle.um_reports.specs.Refusals.{IsTextReply, IsParseReply, IsNameReply, IsShapeReply}
@@ -43,8 +43,8 @@ use Rattle.um_explain_answers.specs.NameRest.{IsNameRest, IsShapeRest}
 use Rattle.um_explain_answers.specs.SchemeRest.{function_place}
 use Rattle.um_explain_answers.specs.Stages.{AfterShapes, FollowsLine}
 use Rattle.um_explain_answers.specs.ExplainAnswer.{is_explained, Explains, ExplainAnswer}
-use Rattle.um_each_answer.specs.Answered.{HasAnswer}
-use Rattle.um_each_answer.specs.Laws.{EachTextHasStages}
+use Rattle.um_all_answers.specs.Answered.{HasAnswer}
+use Rattle.um_all_answers.specs.TextLaws.{EachTextHasStages}
 use Rattle.um_all_answers.proofs.Expected.{expected}
 
 -- some text is this

@@ -10,11 +10,9 @@ use Rattle.um_reports.specs.declared.status.Status.TheVariants.{Usage}
 use Rattle.um_reports.specs.Steps.{line}
 use Rattle.um_call_answers.specs.declared.way.Way.TheVariants as way
 use Rattle.um_explain_answers.specs.ExplainAnswer.{ExplainAnswer}
-use Rattle.um_each_answer.specs.Answered.{HasAnswer}
-use Rattle.um_each_answer.specs.Laws.{EachTextHasAnswers, EachTextIsRescaled, EachTextIsConformed}
-use Rattle.um_text_images.specs.Laws.{EachTextHasImage}
-use Rattle.um_text_proofs.specs.Laws.{EachTextIsProved}
-use Rattle.um_each_call.specs.Laws.{CallsHaveAnswers, TracesHaveAnswers, TwinsHaveAnswers, UnitWordsAreDecided, DisplaysHaveAnswers, SourcesHaveAnswers, GeneratedProgramsHaveAnswers, ImagesHaveAnswers}
+use Rattle.um_all_answers.specs.Answered.{HasAnswer}
+use Rattle.um_all_answers.specs.TextLaws.{EachTextHasAnswers, EachTextIsRescaled, EachTextIsConformed, EachTextHasImage, EachTextIsProved}
+use Rattle.um_all_answers.specs.CallLaws.{CallsHaveAnswers, TracesHaveAnswers, TwinsHaveAnswers, UnitWordsAreDecided, DisplaysHaveAnswers, SourcesHaveAnswers, GeneratedProgramsHaveAnswers, ImagesHaveAnswers}
 use Rattle.um_tool.specs.Asked.{called, held_name, signature_text, rescale_sizes, twin_sizes, called_twice, shown_units, called_shown}
 use Rattle.um_tool.specs.Answer.{IsUsageReply, ByOrder, Answer}
 use Rattle.um_all_answers.specs.Laws.{EachIsAnswered}

@@ -1,7 +1,7 @@
 -- All words and all bytes have an answer. Want of memory is none.
 -- Source: this project's own.
 use Rattle.std.specs.Prelude.{◌<◌, ℕ, All, List}
-use Rattle.um_each_answer.specs.Answered.{HasAnswer}
+use Rattle.um_all_answers.specs.Answered.{HasAnswer}
 use Rattle.um_tool.specs.Answer.{Answer}
 
 -- All words have an answer about all bytes, each below 256.

@@ -1,2 +1,6 @@
--- What a reader must trust: that all words and bytes have an answer.
+-- What a reader must trust, in reading order: what an answer is, and that each text, each call, and all words and bytes
+-- have one.
+pub mod Answered
+pub mod TextLaws
+pub mod CallLaws
 pub mod Laws

@@ -1,7 +1,11 @@
-//! All words and all bytes have an answer.
+//! Each text, each call, and all words and bytes have an answer.
 //!
 //! ```
-//! laws::each_is_answered(); // so want of memory, of the source or of the sink alone keeps `serve` from it
+//! laws::answers_exist(); // each text has an answer of these commands
+//! laws::images_are_written(); // and of `image`
+//! laws::texts_are_proved(); // and of `prove`
+//! laws::calls_are_answered(); // and of each command that calls a function
+//! laws::each_is_answered(); // so want of memory, of the source or of the sink alone keeps `serve` from an answer
 //! ```
 #![tactic(auto)]
 

@@ -1,7 +1,8 @@
 // The answer about a generated program.
-ghost use Rattle.std.specs.Prelude.{◌≡◌, ◌≤◌, ◌<◌, ◌-◌, ◌++◌, [], ◌∷◌, IfOk, OnOk, codes, decimal, map};
+ghost use Rattle.std.specs.Prelude.{◌≡◌, ◌≤◌, ◌<◌, ◌-◌, ◌++◌, [], ◌∷◌, IfOk, OnOk, codes, cond, decimal, map};
 ghost use Rattle.std.specs.Prelude.{slice_get, string_bytes};
 ghost use Rattle.um_tree.specs.ProgramTree.{program_tree, function_tree, scheme_tree};
+ghost use Rattle.um_measures.specs.Known.{is_among};
 ghost use Rattle.um_show.specs.SchemeText.{scheme_text as text_of_scheme};
 ghost use Rattle.um_infer.specs.Answers.{scheme_trees};
 ghost use Rattle.um_front.specs.Parts.{checked_tree};
@@ -141,10 +142,36 @@ fn different_schemes(alloc: Global, program: &Program, schemes: &Schemes) -> Res
     let mut texts = NameTable::new(alloc);
     let schemes: &[Scheme] = &schemes.items;
     for scheme in schemes {
-        let text = scheme_text(alloc, &unnamed, scheme, program)?;
-        texts.add(alloc, &text)?;
+        match add_text(alloc, &mut texts, &unnamed, scheme, program) {
+            Ok(()) => {}
+            Err(stop) => {
+                drop(texts);
+                drop(unnamed);
+                return Err(stop);
+            }
+        }
     }
-    Ok(texts.count())
+    let count = texts.count();
+    drop(texts);
+    drop(unnamed);
+    Ok(count)
+}
+
+/// Adds the text of the scheme under this name, if it isn't among the texts.
+fn add_text(
+    alloc: Global,
+    texts: &mut NameTable,
+    name: &Name,
+    scheme: &Scheme,
+    program: &Program,
+) -> Result<(), AllocError>
+    ensures { let t = text_of_scheme (program_tree program.now) name.now (scheme_tree scheme.now) in OnOk result
+        (texts.new ≡ cond (is_among texts.old t) texts.old (texts.old ++ t ∷ [])) }
+{
+    let text = scheme_text(alloc, name, scheme, program)?;
+    let added = texts.add(alloc, &text);
+    drop(text);
+    added
 }
 
 /// Adds the line of function k with its scheme.

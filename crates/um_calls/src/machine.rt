@@ -24,25 +24,71 @@ fn code_of(alloc: Global, first: Op, second: Op) -> Result<Code, AllocError>
     })
 }
 
+// Whether the machine goes on.
+fn is_going(step: Step) -> bool {
+    let going = matches!(&step, Step::Going);
+    drop(step);
+    going
+}
+
 // Whether the run has ended with the number.
-fn is_number(step: &Step, number: Frac) -> bool {
-    matches!(step, Step::Ended(Outcome::Value(Value::Num(n))) if n.same(number))
+fn is_number(step: Step, number: Frac) -> bool {
+    let ended = matches!(&step, Step::Ended(Outcome::Value(Value::Num(n))) if n.same(number));
+    drop(step);
+    ended
+}
+
+// Whether the run has ended for want of budget.
+fn is_budget_end(step: Step) -> bool {
+    let ended = matches!(&step, Step::Ended(Outcome::BudgetEnd));
+    drop(step);
+    ended
+}
+
+// Whether no instruction applies.
+fn is_stuck(step: Step) -> bool {
+    let stuck = matches!(&step, Step::Stuck);
+    drop(step);
+    stuck
+}
+
+// Whether the machine goes on first, and its next two steps answer that the run has ended with the number.
+fn ends_after_a_step(machine: &mut Machine, number: Frac) -> Result<bool, AllocError> {
+    let going = is_going(machine.step()?);
+    let ended = is_number(machine.step()?, number);
+    let stays = is_number(machine.step()?, number);
+    Ok(going && ended && stays)
+}
+
+// The first step of a call of the function with this budget.
+fn first_step(alloc: Global, code: &Code, budget: u64) -> Result<Step, AllocError>
+    requires { IsCallOf code.now 0 0 }
+{
+    let none = Vec::new(alloc);
+    let mut machine = Machine::start(alloc, code, 0, Values { items: none }, budget)?;
+    let step = machine.step();
+    drop(machine);
+    step
+}
+
+// Whether a call of the function goes on first, and ends then and stays ended with the number.
+fn goes_on_to(alloc: Global, code: &Code, number: Frac) -> Result<bool, AllocError>
+    requires { IsCallOf code.now 0 0 }
+{
+    let none = Vec::new(alloc);
+    let mut machine = Machine::start(alloc, code, 0, Values { items: none }, 1)?;
+    let ended = ends_after_a_step(&mut machine, number);
+    drop(machine);
+    ended
 }
 
 #[test]
 fn a_machine_goes_on_to_its_end(rt: HostRuntime) -> Result<(), Fail> {
     let alloc = rt.alloc();
     let code = code_of(alloc, Op::PushNum(Frac::one()), Op::Ret)?;
-    let none = Vec::new(alloc);
-    let mut machine = Machine::start(alloc, &code, 0, Values { items: none }, 1)?;
-    let step = machine.step()?;
-    assert!(rt; matches!(&step, Step::Going));
-    drop(step);
-    for _ in 0..2 {
-        let step = machine.step()?;
-        assert!(rt; is_number(&step, Frac::one()));
-        drop(step);
-    }
+    let ended = goes_on_to(alloc, &code, Frac::one());
+    drop(code);
+    assert!(rt; ended?);
     Ok(())
 }
 
@@ -50,11 +96,9 @@ fn a_machine_goes_on_to_its_end(rt: HostRuntime) -> Result<(), Fail> {
 fn a_machine_without_budget_ends(rt: HostRuntime) -> Result<(), Fail> {
     let alloc = rt.alloc();
     let code = code_of(alloc, Op::PushNum(Frac::one()), Op::Ret)?;
-    let none = Vec::new(alloc);
-    let mut machine = Machine::start(alloc, &code, 0, Values { items: none }, 0)?;
-    let step = machine.step()?;
-    assert!(rt; matches!(&step, Step::Ended(Outcome::BudgetEnd)));
-    drop(step);
+    let step = first_step(alloc, &code, 0);
+    drop(code);
+    assert!(rt; is_budget_end(step?));
     Ok(())
 }
 
@@ -62,10 +106,8 @@ fn a_machine_without_budget_ends(rt: HostRuntime) -> Result<(), Fail> {
 fn a_machine_is_stuck_where_nothing_applies(rt: HostRuntime) -> Result<(), Fail> {
     let alloc = rt.alloc();
     let code = code_of(alloc, Op::Add, Op::Ret)?;
-    let none = Vec::new(alloc);
-    let mut machine = Machine::start(alloc, &code, 0, Values { items: none }, 1)?;
-    let step = machine.step()?;
-    assert!(rt; matches!(&step, Step::Stuck));
-    drop(step);
+    let step = first_step(alloc, &code, 1);
+    drop(code);
+    assert!(rt; is_stuck(step?));
     Ok(())
 }

@@ -90,6 +90,8 @@ impl Checked {
 
     /// Gives its memory back. A crate that calls this has no proof of its own of how the trees are let go.
     pub fn discard(self) {
-        drop(self);
+        let CheckedParts { text, schemes } = self.parts;
+        text.discard();
+        drop(schemes);
     }
 }

@@ -49,7 +49,7 @@ fn check_shaped(alloc: Global, text: ShapedText) -> Result<Checked, Answer>
         Ok(schemes) => Ok(Checked::new(CheckedParts { text, schemes })),
         Err(stop) => {
             let refused = reply_to_untyped(alloc, &text.text.bytes, &text.shaped, stop);
-            drop(text);
+            text.discard();
             Err(refused)
         }
     }
@@ -98,7 +98,7 @@ fn solve_shaped(alloc: Global, text: ShapedText) -> Result<SolvedText, Answer>
         }),
         Err(stop) => {
             let refused = reply_to_untyped(alloc, &text.text.bytes, &text.shaped, stop);
-            drop(text);
+            text.discard();
             Err(refused)
         }
     }

@@ -13,7 +13,9 @@ pub struct ReadText {
 impl ReadText {
     /// Gives its memory back. A crate that calls this has no proof of its own of how the trees are let go.
     pub fn discard(self) {
-        drop(self);
+        let ReadText { bytes, raw } = self;
+        drop(bytes);
+        raw.discard();
     }
 }
 
@@ -34,7 +36,14 @@ pub struct ShapedText {
 impl ShapedText {
     /// Gives its memory back. A crate that calls this has no proof of its own of how the trees are let go.
     pub fn discard(self) {
-        drop(self);
+        let ShapedText {
+            text,
+            shaped,
+            abbreviations,
+        } = self;
+        drop(text);
+        shaped.discard();
+        drop(abbreviations);
     }
 }
 

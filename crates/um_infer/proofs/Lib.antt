@@ -17,3 +17,6 @@ pub mod SameEquations
 pub mod GivenSchemes
 pub mod SchemeJudgements
 mod SolvedFunctions
+mod ReplacedSteps
+mod OtherHoles
+mod AnySchemes

@@ -1,5 +1,6 @@
 -- What the inference of a program comes to. The definitions do not rest on this.
--- Source: Kennedy (1996): a typable function has a principal scheme, and the inference finds it.
+-- Source: Kennedy (1996): a typable function has a principal scheme, and the inference finds it. It has many, which are
+-- equal but for a change of their variables.
 use Rattle.std.specs.Prelude.{◌≡◌, ◌↔◌, ◌⊎◌, ℕ, ◌<◌, ◌≤◌, List, length, Some, slice_get}
 use Rattle.um_tree.specs.TypeTree.{TypeTree}
 use Rattle.um_tree.specs.ProgramTree.{RecordTree, FunctionTree, ProgramTree, SchemeTree}
@@ -7,10 +8,13 @@ use Rattle.um_tree.specs.ValueTree.{InputTrees}
 use Rattle.um_tree.specs.InputType.{IsResultOfCall, IsTypeOfCall}
 use Rattle.um_tree.specs.Formed.{IsFormed, AreFormedInputs}
 use Rattle.um_slots.specs.Slots.{slot_count}
+use Rattle.um_rows.specs.Solutions.{HaveSchemes}
+use Rattle.um_rows.specs.Laws.{IsFirstRow, AreSolvableUpTo}
 use Rattle.um_rows.specs.Judgement.{has_scheme, too_many_slots, passes_range, has_no_typing, not_general, judge}
 use Rattle.um_infer.specs.Inference.{Inference, all_schemes, stops_at_slots, stops_at_range, stops_at_units}
 use Rattle.um_infer.specs.Inference.{stops_at_not_general, infer}
-use Rattle.um_infer.specs.Schemes.{ArePrincipal, AreTyped, IsFirstWithoutUnits, IsFirstNotGeneral, IsJudged}
+use Rattle.um_infer.specs.Schemes.{ArePrincipal, AreTyped, IsJudged}
+use Rattle.um_infer.specs.Schemes.{IsFirstUntyped, IsFirstWithoutUnits, IsFirstNotGeneral}
 use Rattle.um_infer.specs.CallJudgement.{judge_call}
 
 -- ---- schemes
@@ -90,6 +94,29 @@ abbrev pub ManySlotsAreCounted : Type 0
 ManySlotsAreCounted =
     (bases : ℕ) (records : List RecordTree) (schemes : List SchemeTree) (i : ℕ) (f : FunctionTree) →
     judge bases records schemes i f ≡ too_many_slots ↔ (2000 < slot_count records schemes i f)
+
+-- ---- the first unsolvable row of a function, and which principal schemes the functions before it have
+
+-- by each list of schemes of the functions before it, the function has the same first unsolvable row
+abbrev pub FirstRowIsOne : Type 0
+FirstRowIsOne =
+    (p : ProgramTree) (schemes others : List SchemeTree) (i : ℕ) (f : FunctionTree) →
+    HaveSchemes p schemes i → HaveSchemes p others i →
+    (k at : ℕ) → IsFirstRow p schemes i f k at ↔ IsFirstRow p others i f k at
+
+-- and the rows up to row k have a joint solution by one list exactly if they have one by another
+abbrev pub SolvableRowsAreOne : Type 0
+SolvableRowsAreOne =
+    (p : ProgramTree) (schemes others : List SchemeTree) (i : ℕ) (f : FunctionTree) →
+    HaveSchemes p schemes i → HaveSchemes p others i →
+    (k : ℕ) → AreSolvableUpTo p schemes i f k ↔ AreSolvableUpTo p others i f k
+
+-- so the row at which the first function without a typing is named is its first unsolvable one by all principal schemes
+-- of the functions before
+abbrev pub FirstUntypedByAllSchemes : Type 0
+FirstUntypedByAllSchemes =
+    (p : ProgramTree) (i row at : ℕ) (h : IsFirstUntyped p i row at) (others : List SchemeTree) →
+    ArePrincipal p i others → IsFirstRow p others i h.function row at
 
 -- ---- calls, where the schemes of all functions are given
 

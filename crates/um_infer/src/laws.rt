@@ -13,6 +13,9 @@ ghost use Rattle.um_infer.specs.Laws.{
   ManySlotsAreCounted,
   JudgedCallTypes,
   JudgedCallRefusals,
+  FirstRowIsOne,
+  SolvableRowsAreOne,
+  FirstUntypedByAllSchemes,
 };
 ghost use Rattle.um_infer.specs.Answers.{InferredAnswersAreRight};
 
@@ -33,6 +36,16 @@ pub fn refusals()
     ensures untyped { UnitsStopAtFirstUntyped }
     ensures not_general { NotGeneralStopsAtFirstUntyped }
     ensures typed { TypedStopForLimits }
+{}
+
+/// Suppose that each function before one has its scheme, in two ways. Then the function has the same first unsolvable
+/// row by both, with the same place, and the rows up to a row have a joint solution by one exactly if they have one by
+/// the other. So a function that is named as the first without a typing is named at the first unsolvable row by all
+/// principal schemes of the functions before it.
+pub fn first_rows()
+    ensures row { FirstRowIsOne }
+    ensures solvable { SolvableRowsAreOne }
+    ensures untyped { FirstUntypedByAllSchemes }
 {}
 
 /// Each stop comes exactly if a function is judged so and all before it have their schemes.

@@ -1,6 +1,6 @@
 //! The treatment of one row.
 
-ghost use Rattle.std.specs.Prelude.{◌≡◌, ◌≤◌, ◌<◌, ◌+◌, ◌^◌, ◌*◌, ◌*ℤ◌, not, if◌then◌else◌, List, [], ◌∷◌, All, length};
+ghost use Rattle.std.specs.Prelude.{◌≡◌, ◌≤◌, ◌<◌, ◌+◌, ◌^◌, ◌*◌, ◌*ℤ◌, false, not, if◌then◌else◌, List, [], ◌∷◌, All, length};
 ghost use Rattle.std.specs.Prelude.{nat_abs, pos, None, slice_index_or, IfOk, OnOk, MatchResult, IfErr, IsTrue};
 ghost use Rattle.std.specs.Int.Signed.{◌<ℤ◌};
 ghost use Rattle.std.specs.List.{list_any};
@@ -339,29 +339,59 @@ pub fn make_row(
         → IfErr result (CarriesInRow rows kept k) }
 {
     let mut r = put_in_row(alloc, row, &partial.solution)?;
+    let treated = make_steps(alloc, partial, head, k, row, &mut r);
+    drop(r);
+    treated
+}
+
+/// The same from what the solution makes of the row.
+fn make_steps(
+    alloc: Global,
+    partial: &mut PartialCertificate,
+    head: Head,
+    k: u32,
+    row: &Unit,
+    r: &mut Unit,
+) -> Result<Option<Refused>, CertStop>
+    requires few { head.slots ≤ 2000 }
+    requires parameters { head.parameters ≤ head.slots }
+    requires bases { head.bases + head.parameters < 2 ^ 32 }
+    requires below { VariablesBelow head.slots row.now }
+    requires partial { (kept : Kept) × Agrees head partial.old kept }
+    requires left_below { VariablesBelow head.slots r.old }
+    requires row_under_way { (rows : List PowerMap) (kept : Kept) → row.now ≡ nth rows k → Agrees head partial.old kept
+        → IsRowUnderWay rows kept k head partial.old r.old false }
+    ensures treated { (rows : List PowerMap) (kept : Kept) → row.now ≡ nth rows k → Agrees head partial.old kept
+        → IfOk result (IsRowTreated rows kept k head partial.new) }
+    ensures range { (rows : List PowerMap) (kept : Kept) → row.now ≡ nth rows k → Agrees head partial.old kept
+        → IfErr result (CarriesInRow rows kept k) }
+{
     let mut inverted = false;
     loop {
-        match next_step(alloc, &r)? {
+        match next_step(alloc, r)? {
             None => {
                 let row = TreatedRow {
                     number: k,
                     unit: row,
                     inverted,
-                    left: &r,
+                    left: r,
                 };
                 return closed_end(alloc, partial, &row);
             }
             Some(step) => {
-                r = make_step(alloc, partial, head, &r, &step)?;
+                let left = make_step(alloc, partial, head, r, &step)?;
                 inverted = flipped(inverted, step.inverted);
-                if !has_other_variable(r.terms(), step.variable) {
+                let m = step.variable;
+                drop(step);
+                *r = left;
+                if !has_other_variable(r.terms(), m) {
                     let row = TreatedRow {
                         number: k,
                         unit: row,
                         inverted,
-                        left: &r,
+                        left: r,
                     };
-                    return power_end(alloc, partial, &row, step.variable);
+                    return power_end(alloc, partial, &row, m);
                 }
             }
         }

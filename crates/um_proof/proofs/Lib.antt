@@ -10,4 +10,9 @@ pub mod Judged
 pub mod TidyYes
 pub mod ValidYes
 pub mod ValidNo
-pub mod CertifiedTypings
+mod CertifiedTypings
+mod Instantiated
+mod Products
+mod MovedTypes
+mod Rigid
+mod Certified

@@ -8,7 +8,7 @@ mod Spaces
 mod Loosened
 mod Labels
 mod LabelTexts
-pub mod UnitSizes
+mod UnitSizes
 mod OwnUnits
 mod OwnTexts
 mod UnitNotes
@@ -18,3 +18,10 @@ mod Values
 mod Numbers
 mod Scalars
 mod ReadBack
+-- certificates
+mod Cuts
+mod Names
+mod PrintedUnits
+mod Lines
+mod Certificates
+mod Made

@@ -1,2 +1,3 @@
--- What holds of all values that are printed with decimals.
+-- What holds of all values that are printed with decimals, and of texts of certificates.
 pub mod Laws
+pub mod CertificateLaws

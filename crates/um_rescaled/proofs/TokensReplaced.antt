@@ -14,7 +14,7 @@ use Rattle.um_forms.specs.declared.token.ExprToken.TheVariants.{Number as number
 use Rattle.um_forms.specs.ExprTokens.{expr_token, less}
 use Rattle.um_expr.specs.ExprGrammar.{First, FirstAt, FirstGlued, BinderSpells, AfterNumber, InfixAt, WrittenNote, FirstPower, PowerSpells, EmptyArm, FullArm, NilSpells}
 use Rattle.um_scale.specs.RescaledText.{is_number, is_less, opens_unit, new_number}
-use Rattle.um_spaced.proofs.TokenKinds.{number_is, operator_is}
+use Rattle.um_tidy.proofs.TokenKinds.{number_is, operator_is}
 use Rattle.um_rescaled.specs.Replaced.{IsReplaced, AreReplaced}
 use Rattle.um_rescaled.proofs.Picks.{front, Segment, made, before, ended, empty, single, seen}
 use Rattle.um_rescaled.proofs.UnitsReplaced.{note_replaced, type_replaced}

@@ -10,7 +10,7 @@ use crate::equations::equations;
 use std::alloc::Global;
 use um_equal_types::{RowStop, Rows};
 use um_shape::Shaped;
-use um_slots::{Definition, call_of, exprs_of, param_shapes};
+use um_slots::{Definition, call_of, discard_call};
 use um_tree::{Inputs, Schemes};
 
 /// The equations of the call of function `f` on the inputs, over its slots, given schemes of all functions.
@@ -39,9 +39,13 @@ pub fn call_rows(
 {
     let program = shaped.program();
     let function = &program.functions.items[f as usize];
-    let shapes = param_shapes(alloc, &function.params.items)?;
-    let items = exprs_of(alloc, &program.records.items, args, &shapes)?;
-    let body = call_of(f, items);
+    let body = call_of(
+        alloc,
+        &program.records.items,
+        f,
+        &function.params.items,
+        args,
+    )?;
     let number = program.functions.items.len() as u32;
     let definition = Definition {
         at: 0,
@@ -51,11 +55,13 @@ pub fn call_rows(
         result: &None,
         body: &body,
     };
-    equations(
+    let rows = equations(
         alloc,
         &program.records.items,
         &schemes.items,
         number,
         &definition,
-    )
+    );
+    discard_call(body);
+    rows
 }

@@ -155,18 +155,41 @@ fn units(
 {
     match op {
         Arith::Add | Arith::Sub => {
-            push_quotient(alloc, at, &left, right, &mut progress.rows)?;
-            Ok(Ty::Num(left))
+            match push_quotient(alloc, at, &left, right, &mut progress.rows) {
+                Ok(()) => Ok(Ty::Num(left)),
+                Err(stop) => {
+                    drop(left);
+                    Err(stop)
+                }
+            }
         }
         Arith::Mul => match left.mul(alloc, right) {
-            Ok(unit) => Ok(Ty::Num(unit)),
-            Err(UnitStop::Range) => Err(RowStop::Range { at }),
-            Err(UnitStop::NoMemory) => Err(RowStop::NoMemory),
+            Ok(unit) => {
+                drop(left);
+                Ok(Ty::Num(unit))
+            }
+            Err(UnitStop::Range) => {
+                drop(left);
+                Err(RowStop::Range { at })
+            }
+            Err(UnitStop::NoMemory) => {
+                drop(left);
+                Err(RowStop::NoMemory)
+            }
         },
         Arith::Div => match left.mul_pow(alloc, right, -1) {
-            Ok(unit) => Ok(Ty::Num(unit)),
-            Err(UnitStop::Range) => Err(RowStop::Range { at }),
-            Err(UnitStop::NoMemory) => Err(RowStop::NoMemory),
+            Ok(unit) => {
+                drop(left);
+                Ok(Ty::Num(unit))
+            }
+            Err(UnitStop::Range) => {
+                drop(left);
+                Err(RowStop::Range { at })
+            }
+            Err(UnitStop::NoMemory) => {
+                drop(left);
+                Err(RowStop::NoMemory)
+            }
         },
     }
 }

@@ -90,6 +90,11 @@ impl Shaped {
 
     /// Gives its memory back. A crate that calls this has no proof of its own of how the trees are let go.
     pub fn discard(self) {
-        drop(self);
+        let Shaped {
+            program,
+            signatures,
+        } = self;
+        program.discard();
+        drop(signatures);
     }
 }

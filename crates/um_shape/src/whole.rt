@@ -29,9 +29,23 @@ pub fn shape(alloc: Global, program: Program) -> Result<Shaped, ShapeStop>
     ensures faultless { IfOk result (λ _. first_fault (program_tree program) ≡ None) }
     ensures refused { IfErr result (λ stop. IsRefusal (first_fault (program_tree program)) stop) }
 {
-    let heads = heads_of(alloc, &program)?;
-    let signatures = signatures(alloc, &heads)?;
-    Ok(Shaped::new(program, signatures))
+    match heads_of(alloc, &program) {
+        Ok(heads) => match signatures(alloc, &heads) {
+            Ok(signatures) => {
+                drop(heads);
+                Ok(Shaped::new(program, signatures))
+            }
+            Err(error) => {
+                drop(heads);
+                program.discard();
+                Err(ShapeStop::from(error))
+            }
+        },
+        Err(stop) => {
+            program.discard();
+            Err(stop)
+        }
+    }
 }
 
 /// The shapes of the functions, or the first fault.

@@ -8,6 +8,7 @@ pub mod InstanceLaws
 pub mod TypingLaws
 pub mod UniqueAnswers
 pub mod MatchingSteps
+mod ReadingEnds
 pub mod SignaturesIn
 mod FewVariables
 pub mod UniqueReadings

@@ -164,5 +164,7 @@ pub fn types_of(
     ensures never_twice { IfErr result (λ stop. (at : ℕ) → stop ≢ Twice at) }
 {
     let tables = heads(alloc, program, abbreviations)?;
-    signature(alloc, &tables, &raw.items)
+    let found = signature(alloc, &tables, &raw.items);
+    tables.discard();
+    found
 }

@@ -7,7 +7,7 @@ ghost use Rattle.um_tree.specs.ValueTree.{input_tree, input_trees, inputs_in_ord
 ghost use Rattle.um_tree.specs.ProgramTree.{record_tree};
 ghost use Rattle.um_tree.specs.Shapes.{type_shape as shape_of_type, note_shape as shape_of_note};
 ghost use Rattle.um_tree.specs.declared.note.UnitNote.TheVariants.{Hole};
-ghost use Rattle.um_slots.specs.CallFunction.{open_note as note_left_open, item_shape as shape_of_items};
+ghost use Rattle.um_slots.specs.CallFunction.{open_note as note_left_open, item_shape as shape_of_items, list_of};
 ghost use Rattle.um_slots.specs.CallFunction.{field_shapes as shapes_of_fields, input_text, item_texts, input_texts};
 
 use std::alloc::{AllocError, Global};
@@ -84,8 +84,8 @@ fn shapes_of(alloc: Global, records: &[Record], r: u32) -> Result<Vec<Shape>, Al
     }
 }
 
-/// The shapes of parameters. `AllocError` is the one error.
-pub fn param_shapes(alloc: Global, params: &[Note]) -> Result<Vec<Shape>, AllocError>
+/// The shapes of parameters.
+fn param_shapes(alloc: Global, params: &[Note]) -> Result<Vec<Shape>, AllocError>
     ensures { IfOk result (λ shapes. map shape_tree shapes.items ≡ map shape_of_note (map note_tree params.now)) }
 {
     let mut shapes = Vec::new(alloc);
@@ -127,6 +127,30 @@ fn shape_at<'a>(shapes: &'a [Shape], k: usize, truth: &'a Shape) -> &'a Shape
     }
 }
 
+/// The list of these items, which have the shape of the list's. A list without items is the empty list of its shape.
+fn list_expr(
+    alloc: Global,
+    records: &[Record],
+    items: Vec<Expr>,
+    shape: &Shape,
+) -> Result<Expr, AllocError>
+    ensures { IfOk result (λ e. expr_tree e ≡ list_of
+        (note_left_open (map record_tree records.now) (shape_tree shape.now)) (in_order (map expr_tree items.items))) }
+{
+    if items.is_empty() {
+        drop(items);
+        let note = open_note(alloc, records, shape)?;
+        return Ok(Expr {
+            at: 0,
+            node: Node::Nil(note),
+        });
+    }
+    Ok(Expr {
+        at: 0,
+        node: Node::List(Exprs { items }),
+    })
+}
+
 /// The input of the shape as an expression.
 #[cycle(inputs)]
 fn input_expr(
@@ -152,26 +176,32 @@ fn input_expr(
         }
         Input::List(items) => {
             let truth = Shape::Bool;
-            let items = item_exprs(alloc, records, &items.items, item_shape(shape, &truth))?;
-            if items.is_empty() {
-                let note = open_note(alloc, records, shape)?;
-                return Ok(Expr {
-                    at: 0,
-                    node: Node::Nil(note),
-                });
+            match item_exprs(alloc, records, &items.items, item_shape(shape, &truth)) {
+                Ok(items) => {
+                    drop(truth);
+                    list_expr(alloc, records, items, shape)
+                }
+                Err(error) => {
+                    drop(truth);
+                    Err(error)
+                }
             }
-            Ok(Expr {
-                at: 0,
-                node: Node::List(Exprs { items }),
-            })
         }
         Input::Rec(r, parts) => {
             let shapes = shapes_of(alloc, records, *r)?;
-            let items = input_exprs(alloc, records, &parts.items, &shapes)?;
-            Ok(Expr {
-                at: 0,
-                node: Node::Rec(*r, Exprs { items }),
-            })
+            match input_exprs(alloc, records, &parts.items, &shapes) {
+                Ok(items) => {
+                    drop(shapes);
+                    Ok(Expr {
+                        at: 0,
+                        node: Node::Rec(*r, Exprs { items }),
+                    })
+                }
+                Err(error) => {
+                    drop(shapes);
+                    Err(error)
+                }
+            }
         }
     }
 }
@@ -215,9 +245,8 @@ fn input_exprs(
     Ok(items)
 }
 
-/// The inputs of a call, which have these shapes, as expressions at the place 0. A list without items is the empty list
-/// of its shape, with a hole for each unit. `AllocError` is the one error.
-pub fn exprs_of(
+/// The inputs of a call, which have these shapes, as expressions at the place 0.
+fn exprs_of(
     alloc: Global,
     records: &[Record],
     inputs: &Inputs,
@@ -230,11 +259,41 @@ pub fn exprs_of(
 }
 
 /// A call of function `f` on these arguments, at the place 0.
-pub fn call_of(f: u32, items: Vec<Expr>) -> Expr
+fn call_on(f: u32, items: Vec<Expr>) -> Expr
     ensures { expr_tree result ≡ call 0 f (in_order (map expr_tree items.items)) }
 {
     Expr {
         at: 0,
         node: Node::Call(f, Exprs { items }),
     }
+}
+
+/// A call of function `f`, which has these parameters, on the inputs, as an expression at the place 0. A list without
+/// items is the empty list of its shape, with a hole for each unit. `AllocError` is the one error.
+pub fn call_of(
+    alloc: Global,
+    records: &[Record],
+    f: u32,
+    params: &[Note],
+    inputs: &Inputs,
+) -> Result<Expr, AllocError>
+    ensures { IfOk result (λ e. expr_tree e ≡ call 0 f (input_texts (map record_tree records.now)
+        (map shape_of_note (map note_tree params.now)) (input_trees inputs.now))) }
+{
+    let shapes = param_shapes(alloc, params)?;
+    match exprs_of(alloc, records, inputs, &shapes) {
+        Ok(items) => {
+            drop(shapes);
+            Ok(call_on(f, items))
+        }
+        Err(error) => {
+            drop(shapes);
+            Err(error)
+        }
+    }
+}
+
+/// Gives the memory of such a call back. A crate that calls this has no proof of its own of how the trees are let go.
+pub fn discard_call(call: Expr) {
+    drop(call);
 }

@@ -1,36 +1,37 @@
 // Readers and writers of std that fail, and runs over a source and a sink that never do.
 use crate::run::Tally;
-use crate::table::TableStop;
-use std::alloc::{AllocError, Global};
+use std::alloc::Global;
 use std::io;
 use std::io::{ErrorKind, Read, Write};
+use std::test::Fail;
 use um_tool::{Status, Words, serve, status_of};
 use um_wire::{MemSink, ReadStop, StdSink, StdSource, read_text, write_all};
 
 /// Tries what a table of texts can't show, and prints how it came out.
-pub fn report_faults<R: Print + AllocGlobal>(rt: &R) -> Result<Tally, TableStop> {
+pub fn report_faults<R: Print + AllocGlobal>(rt: &R, total: &mut Tally) -> Result<(), Fail> {
     let alloc = rt.alloc();
-    let mut total = Tally::none();
+    let mut words = Words::new(alloc);
+    words.push(alloc, "types")?;
     for (title, agrees) in [
         (
             "a failed read of std: it is told",
-            failed_read_is_told(alloc)?,
+            failed_read_is_told(alloc),
         ),
         (
             "a failed read of std: the answer",
-            failed_read_is_answered(alloc)?,
+            failed_read_is_answered(alloc, &words),
         ),
         ("writes of std: each is flushed", writes_are_flushed()),
         (
             "a source and a sink that never fail",
-            quiet_runs_agree(alloc)?,
+            quiet_runs_agree(alloc, &words),
         ),
     ] {
         let shown = if agrees { "agrees" } else { "DIFFERS" };
         println!(rt; "{title}: {shown}")?;
-        total.add(Tally::of(agrees));
+        total.add(agrees);
     }
-    Ok(total)
+    Ok(())
 }
 
 // A reader of "abc", a byte a read, whose second read fails and takes nothing.
@@ -58,24 +59,24 @@ impl Read for Stumbling {
 }
 
 // A read that fails is told, and the next one goes on.
-fn failed_read_is_told(alloc: Global) -> Result<bool, AllocError> {
+fn failed_read_is_told(alloc: Global) -> bool {
     let mut source = StdSource::new(Stumbling { calls: 0 });
     let first = read_text(alloc, &mut source, 7);
     let failed = matches!(&first, Err(ReadStop::Failed));
     drop(first);
     match read_text(alloc, &mut source, 7) {
-        Ok(rest) => Ok(failed && rest.as_slice() == b"bc".as_slice()),
-        Err(_) => Ok(false),
+        Ok(rest) => failed && rest.as_slice() == b"bc".as_slice(),
+        Err(_) => false,
     }
 }
 
-fn failed_read_is_answered(alloc: Global) -> Result<bool, AllocError> {
-    let mut words = Words::new(alloc);
-    words.push(alloc, "types")?;
+fn failed_read_is_answered(alloc: Global, words: &Words) -> bool {
     let mut source = StdSource::new(Stumbling { calls: 0 });
-    let mut sink = MemSink::new(alloc, 100, 100, Vec::new(alloc))?;
-    let status = serve(alloc, &words, &mut source, &mut sink);
-    Ok(status == Status::ReadFault && sink.bytes() == b"error 15: read\n".as_slice())
+    let Ok(mut sink) = MemSink::new(alloc, 100, 100, Vec::new(alloc)) else {
+        return false;
+    };
+    let status = serve(alloc, words, &mut source, &mut sink);
+    status == Status::ReadFault && sink.bytes() == b"error 15: read\n".as_slice()
 }
 
 // A writer that takes at most `most` bytes at a time, and whose flush may fail.
@@ -125,9 +126,7 @@ fn write_words(slow: &mut Slow) -> bool {
     write_all(&mut sink, b"one two").is_ok()
 }
 
-fn quiet_runs_agree(alloc: Global) -> Result<bool, AllocError> {
-    let mut words = Words::new(alloc);
-    words.push(alloc, "types")?;
+fn quiet_runs_agree(alloc: Global, words: &Words) -> bool {
     for (text, want) in [
         ("let f (x: num) = x", Status::Done),
         ("let f (x: num) = y", Status::Names),
@@ -138,10 +137,12 @@ fn quiet_runs_agree(alloc: Global) -> Result<bool, AllocError> {
         ),
         ("let", Status::Syntax),
     ] {
-        let status = status_of(alloc, &words, text.as_bytes().to_vec(alloc)?);
-        if status != want {
-            return Ok(false);
+        let Ok(bytes) = text.as_bytes().to_vec(alloc) else {
+            return false;
+        };
+        if status_of(alloc, words, bytes) != want {
+            return false;
         }
     }
-    Ok(true)
+    true
 }

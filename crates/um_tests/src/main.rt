@@ -19,20 +19,49 @@ mod turns;
 use faults::report_faults;
 use run::{Tally, report};
 use std::io;
-use table::{TableStop, read_table};
+use std::test::Fail;
+use table::Case;
 
-fn main(rt: HostRuntime) -> Result<(), TableStop> {
-    let alloc = rt.alloc();
-    let table = io::read_to_string(alloc, rt.stdin())?;
-    let texts = read_table(alloc, &table)?;
-    let mut total = Tally::none();
-    for text in &texts {
-        for question in &text.questions {
-            total.add(report(&rt, text, question)?);
-        }
-    }
-    total.add(report_faults(&rt)?);
+fn main(rt: HostRuntime) -> Result<(), Fail> {
+    let table = io::read_to_string(rt.alloc(), rt.stdin())?;
+    let mut total = Tally { runs: 0, agree: 0 };
+    report_table(&rt, &table, &mut total)?;
+    report_faults(&rt, &mut total)?;
     let Tally { runs, agree } = total;
     println!(rt; "{runs} cases, {agree} agree")?;
     Ok(())
+}
+
+fn report_table<R: Print + AllocGlobal>(
+    rt: &R,
+    table: &str,
+    total: &mut Tally,
+) -> Result<(), Fail> {
+    let mut case = Case::new(rt.alloc());
+    for (before, line) in table.lines().enumerate() {
+        put_line(rt, &mut case, line, total)?;
+        if let Some(why) = case.fault {
+            return refuse(rt, before.saturating_add(1), why);
+        }
+    }
+    report(rt, &case, total)
+}
+
+// A question is put when the next question, the next text or the table's end comes.
+fn put_line<'a, R: Print + AllocGlobal>(
+    rt: &R,
+    case: &mut Case<'a>,
+    line: &'a str,
+    total: &mut Tally,
+) -> Result<(), Fail> {
+    let (key, rest) = line.split_once(' ').unwrap_or((line, ""));
+    if key == "text" || key == "$" {
+        report(rt, case, total)?;
+    }
+    Ok(case.add_line(rt.alloc(), key, rest)?)
+}
+
+fn refuse<R: Print>(rt: &R, line: usize, why: &str) -> Result<(), Fail> {
+    println!(rt; "line {line}: {why}")?;
+    Err(Fail::new("the table was not read"))
 }

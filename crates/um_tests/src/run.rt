@@ -1,8 +1,9 @@
 // Putting a question, and saying what came.
-use crate::table::{Question, TableStop, Text, WHOLE, Wire};
+use crate::table::{Case, WHOLE, Wire};
 use crate::turns::report_turns;
 use std::alloc::{AllocError, Global};
 use std::str;
+use std::test::Fail;
 use um_tool::serve;
 use um_wire::{MemSink, MemSource};
 
@@ -14,79 +15,88 @@ pub struct Tally {
 }
 
 impl Tally {
-    /// No run.
-    pub fn none() -> Tally {
-        Tally { runs: 0, agree: 0 }
-    }
-
-    /// One run.
-    pub fn of(agrees: bool) -> Tally {
-        Tally {
-            runs: 1,
-            agree: if agrees { 1 } else { 0 },
+    /// Counts one more run.
+    pub fn add(&mut self, agrees: bool) {
+        self.runs = self.runs.saturating_add(1);
+        if agrees {
+            self.agree = self.agree.saturating_add(1);
         }
-    }
-
-    /// Counts more runs.
-    pub fn add(&mut self, more: Tally) {
-        self.runs = self.runs.saturating_add(more.runs);
-        self.agree = self.agree.saturating_add(more.agree);
     }
 }
 
-/// Puts a question over each of its sources, and prints what came.
-pub fn report<R: Print + AllocGlobal>(
-    rt: &R,
-    text: &Text,
-    question: &Question,
-) -> Result<Tally, TableStop> {
-    if let Some(turns) = question.turns {
-        return report_turns(rt, text, question, turns);
+/// Puts the question, if there is one, over each of its sources, and prints what came.
+pub fn report<R: Print + AllocGlobal>(rt: &R, case: &Case, total: &mut Tally) -> Result<(), Fail> {
+    if !case.is_asked {
+        return Ok(());
     }
-    let mut total = Tally::none();
-    if question.sources.is_empty() {
-        total.add(report_run(rt, text, question, WHOLE)?);
+    if let Some(turns) = case.turns {
+        return report_turns(rt, case, turns, total);
     }
-    for source in &question.sources {
-        total.add(report_run(rt, text, question, *source)?);
+    if case.sources.is_empty() {
+        return report_run(rt, case, WHOLE, total);
     }
-    Ok(total)
+    for source in &case.sources {
+        report_run(rt, case, *source, total)?;
+    }
+    Ok(())
 }
 
 fn report_run<R: Print + AllocGlobal>(
     rt: &R,
-    text: &Text,
-    question: &Question,
+    case: &Case,
     source: Wire,
-) -> Result<Tally, TableStop> {
-    let (status, answer) = ask(rt.alloc(), &text.bytes, question, source, question.sink)?;
-    let agrees = question.status == Some(status) && question.answer.as_slice() == answer.as_slice();
-    let (title, line) = (&text.title, &question.line);
-    let shown = first_line(&answer);
-    let lines = answer.iter().filter(|byte| **byte == b'\n').count();
-    println!(rt; "{title}: {line}: {status}, {lines} lines: {shown}")?;
-    if !agrees {
-        let shown = first_line(&question.answer);
-        let wanted = question.status.unwrap_or(u8::MAX);
-        println!(rt; "  THAT DIFFERS: wanted {wanted}: {shown}")?;
-    }
-    Ok(Tally::of(agrees))
+    total: &mut Tally,
+) -> Result<(), Fail> {
+    let (status, sink) = ask(rt.alloc(), case, &case.text, source, case.sink)?;
+    report_answer(rt, case, status, sink.bytes(), total)
 }
 
-/// The status and the answer of one run of the question's words over the bytes.
+fn report_answer<R: Print>(
+    rt: &R,
+    case: &Case,
+    status: usize,
+    answer: &[u8],
+    total: &mut Tally,
+) -> Result<(), Fail> {
+    let agrees = is_wanted(case, status, answer);
+    total.add(agrees);
+    let (title, question) = (case.title, case.question);
+    let (lines, shown) = (count_of_lines(answer), first_line(answer));
+    println!(rt; "{title}: {question}: {status}, {lines} lines: {shown}")?;
+    if agrees {
+        return Ok(());
+    }
+    let (wanted, shown) = (
+        case.status.unwrap_or(u8::MAX as usize),
+        first_line(&case.answer),
+    );
+    println!(rt; "  THAT DIFFERS: wanted {wanted}: {shown}")?;
+    Ok(())
+}
+
+/// The status of one run of the question's words over the bytes, and the sink with its answer.
 pub fn ask(
     alloc: Global,
+    case: &Case,
     bytes: &[u8],
-    question: &Question,
     source: Wire,
     sink: Wire,
-) -> Result<(u8, Vec<u8>), AllocError> {
+) -> Result<(usize, MemSink), AllocError> {
+    let mut sink = sink_of(alloc, case.room, sink)?;
+    let mut source = source_of(alloc, bytes, source)?;
+    let status = serve(alloc, &case.words, &mut source, &mut sink);
+    Ok((status.number() as usize, sink))
+}
+
+fn sink_of(alloc: Global, room: usize, wire: Wire) -> Result<MemSink, AllocError> {
+    let fails = calls(alloc, wire.fail)?;
+    MemSink::new(alloc, room, wire.piece.max(1), fails)
+}
+
+fn source_of(alloc: Global, bytes: &[u8], wire: Wire) -> Result<MemSource, AllocError> {
+    let fails = calls(alloc, wire.fail)?;
     let bytes = bytes.to_vec(alloc)?;
-    let mut source = MemSource::new(bytes, source.piece.max(1), calls(alloc, source.fail)?);
-    let (room, fails) = (question.room, calls(alloc, sink.fail)?);
-    let mut sink = MemSink::new(alloc, room, sink.piece.max(1), fails)?;
-    let status = serve(alloc, &question.words, &mut source, &mut sink);
-    Ok((status.number(), sink.bytes().to_vec(alloc)?))
+    Ok(MemSource::new(bytes, wire.piece.max(1), fails))
 }
 
 fn calls(alloc: Global, fail: Option<u64>) -> Result<Vec<u64>, AllocError> {
@@ -95,6 +105,21 @@ fn calls(alloc: Global, fail: Option<u64>) -> Result<Vec<u64>, AllocError> {
         calls.push(call)?;
     }
     Ok(calls)
+}
+
+/// Whether a run came out as the table has it.
+pub fn is_wanted(case: &Case, status: usize, answer: &[u8]) -> bool {
+    case.status == Some(status) && case.answer.as_slice() == answer
+}
+
+fn count_of_lines(answer: &[u8]) -> usize {
+    let mut lines: usize = 0;
+    for byte in answer {
+        if *byte == b'\n' {
+            lines = lines.saturating_add(1);
+        }
+    }
+    lines
 }
 
 /// The first line of an answer, and no more than its first hundred bytes.

@@ -18,74 +18,28 @@
 // Calls are counted from 0. In BYTES and WORDS `\n` is a line feed and `\xFF` the byte of two
 // hexadecimal digits, `\m` is 1,048,576 letters a; in a repeated piece `\k` is the number of the round,
 // from 1, and `\K` the next.
-use crate::piece::{push_line, push_piece};
-use std::alloc::{AllocError, AllocFailed, Global};
-use std::io;
-use std::str::FromStr;
-use thiserror::Error;
+use crate::piece::{Fault, number, push_line, push_piece};
+use std::alloc::{AllocError, Global};
+use std::str;
 use um_tool::Words;
 
-/// Why a table was not read.
-#[derive(Debug, Drop, Error)]
-pub enum TableStop {
-    #[error("line {line}: {why}")]
-    Malformed { line: usize, why: &'static str },
-    #[error("out of memory")]
-    NoMemory,
-    #[error("standard input or output failed")]
-    Failed,
-}
-
-/// Why a line of a table was not read.
+/// The lines of the table since the last text and its last question.
 #[derive(Drop)]
-pub enum LineFault {
-    Malformed(&'static str),
-    NoMemory,
-}
-
-impl From<io::Error> for TableStop {
-    fn from(_: io::Error) -> Self {
-        TableStop::Failed
-    }
-}
-
-impl From<AllocError> for TableStop {
-    fn from(_: AllocError) -> Self {
-        TableStop::NoMemory
-    }
-}
-
-impl<T: Drop> From<AllocFailed<T>> for LineFault {
-    fn from(_: AllocFailed<T>) -> Self {
-        LineFault::NoMemory
-    }
-}
-
-impl From<AllocError> for LineFault {
-    fn from(_: AllocError) -> Self {
-        LineFault::NoMemory
-    }
-}
-
-/// A text, and the questions about it.
-#[derive(Drop)]
-pub struct Text {
-    pub title: String,
-    pub bytes: Vec<u8>,
-    pub questions: Vec<Question>,
-}
-
-/// The words of a run, how its bytes come and go, and what must come.
-#[derive(Drop)]
-pub struct Question {
-    pub line: String,
+pub struct Case<'a> {
+    pub is_begun: bool,
+    pub title: &'a str,
+    pub text: Vec<u8>,
+    pub is_asked: bool,
+    pub question: &'a str,
     pub words: Words,
     pub sources: Vec<Wire>,
     pub turns: Option<Turns>,
     pub sink: Wire,
     pub room: usize,
-    pub status: Option<u8>,
+    pub status: Option<usize>,
     pub answer: Vec<u8>,
+    /// Why the last line was not read, if it wasn't.
+    pub fault: Fault,
 }
 
 /// What changes from run to run of one question.
@@ -96,7 +50,7 @@ pub enum Turns {
     /// The write that fails.
     Writes,
     /// Where the text is cut off, with the greatest status.
-    Prefixes(u8),
+    Prefixes(usize),
 }
 
 /// The most bytes that a call moves, and the call that fails.
@@ -112,159 +66,143 @@ pub const WHOLE: Wire = Wire {
     fail: None,
 };
 
-/// The texts of a table, in order.
-pub fn read_table(alloc: Global, table: &str) -> Result<Vec<Text>, TableStop> {
-    let mut texts = Vec::new(alloc);
-    for (before, line) in table.lines().enumerate() {
-        match add_line(alloc, &mut texts, line) {
-            Ok(()) => {}
-            Err(LineFault::NoMemory) => return Err(TableStop::NoMemory),
-            Err(LineFault::Malformed(why)) => {
-                let line = before.saturating_add(1);
-                return Err(TableStop::Malformed { line, why });
-            }
+impl<'a> Case<'a> {
+    /// What stands before the first text.
+    pub fn new(alloc: Global) -> Case<'a> {
+        Case {
+            is_begun: false,
+            title: "",
+            text: Vec::new(alloc),
+            is_asked: false,
+            question: "",
+            words: Words::new(alloc),
+            sources: Vec::new(alloc),
+            turns: None,
+            sink: WHOLE,
+            room: WHOLE.piece,
+            status: None,
+            answer: Vec::new(alloc),
+            fault: None,
         }
     }
-    Ok(texts)
-}
 
-fn add_line(alloc: Global, texts: &mut Vec<Text>, line: &str) -> Result<(), LineFault> {
-    if line.is_empty() || line.starts_with("#") {
-        return Ok(());
-    }
-    let (key, rest) = line.split_once(' ').unwrap_or((line, ""));
-    if key == "text" {
-        texts.push(Text {
-            title: String::from_str(alloc, rest)?,
-            bytes: Vec::new(alloc),
-            questions: Vec::new(alloc),
-        })?;
-        return Ok(());
-    }
-    match texts.last_mut() {
-        Some(text) => add_to_text(alloc, text, key, rest),
-        None => Err(LineFault::Malformed("no text before this line")),
-    }
-}
-
-fn add_to_text(alloc: Global, text: &mut Text, key: &str, rest: &str) -> Result<(), LineFault> {
-    if key == "$" {
-        text.questions.push(question_of(alloc, rest)?)?;
-        return Ok(());
-    }
-    match text.questions.last_mut() {
-        Some(question) => add_to_question(alloc, question, key, rest),
-        None => push_line(alloc, &mut text.bytes, key, rest),
-    }
-}
-
-fn question_of(alloc: Global, line: &str) -> Result<Question, LineFault> {
-    Ok(Question {
-        line: String::from_str(alloc, line)?,
-        words: words_of(alloc, line)?,
-        sources: Vec::new(alloc),
-        turns: None,
-        sink: WHOLE,
-        room: WHOLE.piece,
-        status: None,
-        answer: Vec::new(alloc),
-    })
-}
-
-fn words_of(alloc: Global, line: &str) -> Result<Words, LineFault> {
-    let mut words = Words::new(alloc);
-    for (marks, part) in line.split('"').enumerate() {
-        if marks % 2 == 1 {
-            push_word(alloc, &mut words, part)?;
-        } else {
-            for word in part.split(' ') {
-                if !word.is_empty() {
-                    push_word(alloc, &mut words, word)?;
-                }
-            }
+    /// Adds a line of the table: its first word, and what follows a space.
+    pub fn add_line(&mut self, alloc: Global, key: &str, rest: &'a str) -> Result<(), AllocError> {
+        if key.is_empty() && rest.is_empty() || key.starts_with('#') {
+            return Ok(());
         }
+        if key == "text" {
+            self.begin_text(rest);
+            return Ok(());
+        }
+        if !self.is_begun {
+            self.fault = Some("no text before this line");
+            return Ok(());
+        }
+        if key == "$" {
+            return self.begin_question(alloc, rest);
+        }
+        if self.is_asked {
+            return self.add_to_question(key, rest);
+        }
+        push_line(&mut self.text, &mut self.fault, key, rest)
     }
-    Ok(words)
+
+    fn begin_text(&mut self, title: &'a str) {
+        self.is_begun = true;
+        self.title = title;
+        self.text.clear();
+        self.is_asked = false;
+    }
+
+    fn begin_question(&mut self, alloc: Global, line: &'a str) -> Result<(), AllocError> {
+        self.is_asked = true;
+        self.question = line;
+        self.words = Words::new(alloc);
+        self.sources.clear();
+        self.turns = None;
+        self.sink = WHOLE;
+        self.room = WHOLE.piece;
+        self.status = None;
+        self.answer.clear();
+        push_words(alloc, &mut self.words, &mut self.fault, line)
+    }
+
+    fn add_to_question(&mut self, key: &str, rest: &str) -> Result<(), AllocError> {
+        match key {
+            "=" => self.status = Some(number(rest, &mut self.fault)),
+            "~" => self.turns = Some(Turns::Prefixes(number(rest, &mut self.fault))),
+            "<" => return self.add_source(rest),
+            ">" => self.set_sink(rest),
+            _ if self.status.is_none() => self.fault = Some("no status before this line"),
+            _ => return push_line(&mut self.answer, &mut self.fault, key, rest),
+        }
+        Ok(())
+    }
+
+    fn add_source(&mut self, rest: &str) -> Result<(), AllocError> {
+        let (piece, call) = rest.split_once(' ').unwrap_or((rest, ""));
+        let source = wire_of(piece, call, &mut self.fault);
+        if call == "each" {
+            self.turns = Some(Turns::Reads(source.piece));
+            return Ok(());
+        }
+        Ok(self.sources.push(source)?)
+    }
+
+    fn set_sink(&mut self, rest: &str) {
+        let (piece, rest) = rest.split_once(' ').unwrap_or((rest, ""));
+        let (room, call) = rest.split_once(' ').unwrap_or((rest, ""));
+        if call == "each" {
+            self.turns = Some(Turns::Writes);
+        }
+        self.sink = wire_of(piece, call, &mut self.fault);
+        self.room = number(room, &mut self.fault);
+    }
 }
 
-fn push_word(alloc: Global, words: &mut Words, word: &str) -> Result<(), LineFault> {
-    let mut bytes = Vec::new(alloc);
-    push_piece(alloc, &mut bytes, word, 0)?;
-    match String::from_utf8(bytes) {
-        Ok(word) => Ok(words.push(alloc, &word)?),
-        Err(_) => Err(LineFault::Malformed("a word that isn't UTF-8")),
+// The most bytes that a call moves, and the call that fails, if one number is named.
+fn wire_of(piece: &str, call: &str, fault: &mut Fault) -> Wire {
+    Wire {
+        piece: number(piece, fault),
+        fail: match call {
+            "" | "each" => None,
+            _ => Some(number(call, fault) as u64),
+        },
     }
 }
 
-fn add_to_question(
+fn push_words(
     alloc: Global,
-    question: &mut Question,
-    key: &str,
-    rest: &str,
-) -> Result<(), LineFault> {
-    match key {
-        "=" => {
-            question.status = Some(number(rest)?);
-            Ok(())
+    words: &mut Words,
+    fault: &mut Fault,
+    line: &str,
+) -> Result<(), AllocError> {
+    let mut is_quoted = false;
+    for part in line.split('"') {
+        for word in part.split(if is_quoted { '"' } else { ' ' }) {
+            if is_quoted || !word.is_empty() {
+                push_word(alloc, words, fault, word)?;
+            }
         }
-        "<" => add_source(question, rest),
-        "~" => {
-            question.turns = Some(Turns::Prefixes(number(rest)?));
-            Ok(())
-        }
-        ">" => {
-            let (piece, rest) = rest.split_once(' ').unwrap_or((rest, ""));
-            let rest = match rest.strip_suffix(" each") {
-                Some(room) => {
-                    question.turns = Some(Turns::Writes);
-                    room
-                }
-                None => rest,
-            };
-            let sink = wire_of(rest)?;
-            question.room = sink.piece;
-            question.sink = Wire {
-                piece: number(piece)?,
-                fail: sink.fail,
-            };
-            Ok(())
-        }
-        _ if question.status.is_none() => {
-            Err(LineFault::Malformed("no status before this line"))
-        }
-        _ => push_line(alloc, &mut question.answer, key, rest),
-    }
-}
-
-fn add_source(question: &mut Question, rest: &str) -> Result<(), LineFault> {
-    match rest.strip_suffix(" each") {
-        Some(piece) => question.turns = Some(Turns::Reads(number(piece)?)),
-        None => question.sources.push(wire_of(rest)?)?,
+        is_quoted = !is_quoted;
     }
     Ok(())
 }
 
-// One number, and maybe the call that fails.
-fn wire_of(text: &str) -> Result<Wire, LineFault> {
-    match text.split_once(' ') {
-        None => Ok(Wire {
-            piece: number(text)?,
-            fail: None,
-        }),
-        Some((piece, call)) => Ok(Wire {
-            piece: number(piece)?,
-            fail: Some(number(call)?),
-        }),
-    }
-}
-
-/// The number that a text spells.
-pub fn number<N: FromStr>(text: &str) -> Result<N, LineFault>
-where
-    N::Err: Drop,
-{
-    match text.parse::<N>() {
-        Ok(number) => Ok(number),
-        Err(_) => Err(LineFault::Malformed("no number")),
+fn push_word(
+    alloc: Global,
+    words: &mut Words,
+    fault: &mut Fault,
+    word: &str,
+) -> Result<(), AllocError> {
+    let mut bytes = Vec::new(alloc);
+    push_piece(&mut bytes, fault, word, 0)?;
+    match str::from_utf8(&bytes) {
+        Ok(word) => words.push(alloc, word),
+        Err(_) => {
+            *fault = Some("a word that isn't UTF-8");
+            Ok(())
+        }
     }
 }

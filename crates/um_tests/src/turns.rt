@@ -1,101 +1,77 @@
 // Questions that are put many times, while one thing changes from run to run.
-use crate::run::{Tally, ask, first_line};
-use crate::table::{Question, TableStop, Text, Turns, WHOLE, Wire};
+use crate::piece::number;
+use crate::run::{Tally, ask, first_line, is_wanted};
+use crate::table::{Case, Turns, WHOLE, Wire};
 use std::alloc::{AllocError, Global};
 use std::str;
+use std::test::Fail;
 
 /// Puts a question in all its turns, and prints how many runs came out as they must.
 pub fn report_turns<R: Print + AllocGlobal>(
     rt: &R,
-    text: &Text,
-    question: &Question,
+    case: &Case,
     turns: Turns,
-) -> Result<Tally, TableStop> {
-    let alloc = rt.alloc();
-    let (asked, agree) = match turns {
-        Turns::Reads(piece) => reads_in_turn(alloc, text, question, piece.max(1))?,
-        Turns::Writes => writes_in_turn(alloc, text, question)?,
-        Turns::Prefixes(most) => prefixes(alloc, text, question, most)?,
-    };
-    let (title, line, shown) = (&text.title, &question.line, first_line(&question.answer));
-    println!(rt; "{title}: {line}: {agree} of {asked} runs: {shown}")?;
-    Ok(Tally::of(asked == agree))
-}
-
-// How many runs there were over sources of which one read fails, and how many came out right: a read
-// for each piece of the text, one at its end, and a source that never fails.
-fn reads_in_turn(
-    alloc: Global,
-    text: &Text,
-    question: &Question,
-    piece: usize,
-) -> Result<(usize, usize), AllocError> {
-    let reads = pieces(text.bytes.len(), piece).saturating_add(1);
+    total: &mut Tally,
+) -> Result<(), Fail> {
+    let (asked, faulty) = count_of_runs(case, turns);
     let mut agree: usize = 0;
-    for call in 0..=reads {
-        let source = Wire {
-            piece,
-            fail: Some(call as u64),
-        };
-        let (status, answer) = ask(alloc, &text.bytes, question, source, question.sink)?;
-        let agrees = if call < reads {
-            status == 15 && answer.as_slice() == b"error 15: read\n".as_slice()
-        } else {
-            is_wanted(question, status, &answer)
-        };
-        agree = agree.saturating_add(if agrees { 1 } else { 0 });
-    }
-    Ok((reads.saturating_add(1), agree))
-}
-
-// The same over sinks of which one write fails: the bytes of the writes before it were taken.
-fn writes_in_turn(
-    alloc: Global,
-    text: &Text,
-    question: &Question,
-) -> Result<(usize, usize), AllocError> {
-    let wanted = question.answer.as_slice();
-    let piece = question.sink.piece.max(1);
-    let writes = pieces(wanted.len(), piece);
-    let mut agree: usize = 0;
-    for call in 0..=writes {
-        let sink = Wire {
-            piece,
-            fail: Some(call as u64),
-        };
-        let (status, answer) = ask(alloc, &text.bytes, question, WHOLE, sink)?;
-        let agrees = if call < writes {
-            let taken = call.saturating_mul(piece);
-            status == 16 && wanted.get(..taken) == Some(answer.as_slice())
-        } else {
-            is_wanted(question, status, &answer)
-        };
-        agree = agree.saturating_add(if agrees { 1 } else { 0 });
-    }
-    Ok((writes.saturating_add(1), agree))
-}
-
-// The same over each proper prefix of the text.
-fn prefixes(
-    alloc: Global,
-    text: &Text,
-    question: &Question,
-    most: u8,
-) -> Result<(usize, usize), AllocError> {
-    let mut agree: usize = 0;
-    for end in 0..text.bytes.len() {
-        let prefix = text.bytes.get(..end).unwrap_or(b"");
-        let (status, answer) = ask(alloc, prefix, question, WHOLE, WHOLE)?;
-        let answer = str::from_utf8(&answer).unwrap_or(" at nowhere");
-        if status <= most && (status == 0 || is_within(answer, prefix)) {
+    for turn in 0..asked {
+        if turn_agrees(rt.alloc(), case, turns, turn, faulty)? {
             agree = agree.saturating_add(1);
         }
     }
-    Ok((text.bytes.len(), agree))
+    total.add(asked == agree);
+    let (title, question, shown) = (case.title, case.question, first_line(&case.answer));
+    println!(rt; "{title}: {question}: {agree} of {asked} runs: {shown}")?;
+    Ok(())
 }
 
-fn is_wanted(question: &Question, status: u8, answer: &[u8]) -> bool {
-    question.status == Some(status) && question.answer.as_slice() == answer
+// How many runs there are, and how many of them meet a fault or a text that is cut off: a read for each piece
+// of the text and one at its end, a write for each piece of the answer, or each proper prefix of the text. After
+// the reads and the writes comes a run that meets no fault.
+fn count_of_runs(case: &Case, turns: Turns) -> (usize, usize) {
+    let faulty = match turns {
+        Turns::Reads(piece) => pieces(case.text.len(), piece).saturating_add(1),
+        Turns::Writes => pieces(case.answer.len(), case.sink.piece),
+        Turns::Prefixes(_) => return (case.text.len(), case.text.len()),
+    };
+    (faulty.saturating_add(1), faulty)
+}
+
+// Whether the run of one turn comes out right.
+fn turn_agrees(
+    alloc: Global,
+    case: &Case,
+    turns: Turns,
+    turn: usize,
+    faulty: usize,
+) -> Result<bool, AllocError> {
+    let fail = Some(turn as u64);
+    let (bytes, source, sink) = match turns {
+        Turns::Reads(piece) => (case.text.as_slice(), Wire { piece, fail }, case.sink),
+        Turns::Writes => {
+            let piece = case.sink.piece;
+            (case.text.as_slice(), WHOLE, Wire { piece, fail })
+        }
+        Turns::Prefixes(_) => (case.text.get(..turn).unwrap_or(b""), WHOLE, WHOLE),
+    };
+    let (status, sink) = ask(alloc, case, bytes, source, sink)?;
+    let answer = sink.bytes();
+    Ok(if turn == faulty {
+        is_wanted(case, status, answer)
+    } else {
+        match turns {
+            Turns::Reads(_) => status == 15 && answer == b"error 15: read\n".as_slice(),
+            Turns::Writes => status == 16 && answer == taken_before(case, turn),
+            Turns::Prefixes(most) => status <= most && (status == 0 || is_within(answer, bytes)),
+        }
+    })
+}
+
+// The bytes that a sink took before the write with this number.
+fn taken_before<'a>(case: &'a Case, call: usize) -> &'a [u8] {
+    let taken = call.saturating_mul(case.sink.piece.max(1));
+    case.answer.get(..taken).unwrap_or(&case.answer)
 }
 
 // How many pieces so many bytes make.
@@ -105,7 +81,8 @@ fn pieces(bytes: usize, piece: usize) -> usize {
 }
 
 // Whether the place that a report line names, if it names one, isn't after the end of an ASCII text.
-fn is_within(report: &str, text: &[u8]) -> bool {
+fn is_within(report: &[u8], text: &[u8]) -> bool {
+    let report = str::from_utf8(report).unwrap_or(" at nowhere");
     let line = report.strip_suffix("\n").unwrap_or(report);
     let Some((_, place)) = line.rsplit_once(" at ") else {
         return true;
@@ -113,9 +90,8 @@ fn is_within(report: &str, text: &[u8]) -> bool {
     let Some((line, column)) = place.split_once(':') else {
         return place == "end";
     };
-    let (Ok(line), Ok(column)) = (line.parse::<usize>(), column.parse::<usize>()) else {
-        return false;
-    };
+    let mut fault = None;
+    let (line, column) = (number(line, &mut fault), number(column, &mut fault));
     let (mut last, mut end): (usize, usize) = (1, 1);
     for byte in text {
         (last, end) = if *byte == b'\n' {
@@ -124,5 +100,5 @@ fn is_within(report: &str, text: &[u8]) -> bool {
             (last, end.saturating_add(1))
         };
     }
-    line < last || line == last && column <= end
+    fault.is_none() && (line < last || line == last && column <= end)
 }

@@ -15,10 +15,30 @@ pub mod LineMargins
 pub mod Margins
 pub mod Whites
 pub mod GapComments
-pub mod StandAgain
+mod StandAgain
 pub mod Anew
-pub mod TokensAnew
+mod TokensAnew
 pub mod CommentsAnew
 pub mod TidiedAgain
-pub mod GlueAnew
+mod GlueAnew
+-- the layout of a program
+mod SpacedPieces
+mod UnitsSpaced
+mod TypesSpaced
+mod ExprsSpaced
+mod DeclsSpaced
+mod PiecesApart
+mod LayoutTidy
+pub mod Alike
+mod Leaves
+mod AfterNumbers
+pub mod TokenKinds
+mod UnitsStay
+mod TypesStay
+mod InfixStays
+mod PartsStay
+mod ExprsStay
+pub mod DeclsStay
+mod BareLayouts
+mod ProgramStays
 mod Examples

@@ -3,10 +3,10 @@ use Rattle.std.proofs.Common.{◌≡◌, ℕ, List, [], ◌∷◌, codes, Option
 use Rattle.um_tree.specs.ProgramTree.{SchemeTree}
 use Rattle.um_infer.specs.Inference.{Inference, all_schemes, stops_at_slots, stops_at_range, stops_at_units, stops_at_not_general, infer}
 use Rattle.um_scale.specs.RescaledLiterals.{rescaled_program}
-use Rattle.um_unplaced.specs.Programs.{unplaced_program}
-use Rattle.um_unplaced.specs.Laws.{RescaledTextsAreRead as RescaledTextsAreReadAgain}
-use Rattle.um_same_schemes.specs.Inferences.{unplaced_inference}
-use Rattle.um_same_schemes.specs.Laws.{RescaledProgramsHaveTheSchemes}
+use Rattle.um_rescaled.specs.UnplacedPrograms.{unplaced_program}
+use Rattle.um_rescaled.specs.PlaceLaws.{RescaledTextsAreRead as RescaledTextsAreReadAgain}
+use Rattle.um_rescaled.specs.UnplacedInferences.{unplaced_inference}
+use Rattle.um_rescaled.specs.SchemeLaws.{RescaledProgramsHaveTheSchemes}
 use Rattle.um_orders.specs.declared.order.Order.{Order}
 use Rattle.um_reports.specs.declared.status.Status.{Status}
 use Rattle.um_reports.specs.declared.status.Status.TheVariants.{Done}

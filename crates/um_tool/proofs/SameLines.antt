@@ -10,7 +10,7 @@ use Rattle.um_tree.specs.Scheme.{signature_types}
 use Rattle.um_show.specs.UnitText.{variable_text, named_unit_text}
 use Rattle.um_show.specs.SchemeText.{num_text, declared_name, record_name, units_text, type_text, scheme_text}
 use Rattle.um_scale.specs.RescaledLiterals.{rescaled_function, rescaled_program}
-use Rattle.um_unplaced.specs.Programs.{unplaced_record, unplaced_function, unplaced_program}
+use Rattle.um_rescaled.specs.UnplacedPrograms.{unplaced_record, unplaced_function, unplaced_program}
 use Rattle.um_reports.specs.Steps.{line}
 use Rattle.um_answers.specs.TypesAnswer.{scheme_lines}
 

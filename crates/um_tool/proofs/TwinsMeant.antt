@@ -15,9 +15,9 @@ use Rattle.um_scale.specs.RescaledText.{respelled, IsRescaledText}
 use Rattle.um_scale.proofs.RescaledTexts.{texts_are_unique}
 use Rattle.um_scale.proofs.SizeFactors.{sizes_positive}
 use Rattle.um_scale.proofs.Rescaled.{program_rescaled}
-use Rattle.um_rescaled.specs.Laws.{rescaled_numbers, Spells}
-use Rattle.um_unplaced.specs.Programs.{unplaced_program}
-use Rattle.um_unplaced.specs.Laws.{RescaledTextsAreRead as RescaledTextsAreReadAgain}
+use Rattle.um_rescaled.specs.NumberLaws.{rescaled_numbers, Spells}
+use Rattle.um_rescaled.specs.UnplacedPrograms.{unplaced_program}
+use Rattle.um_rescaled.specs.PlaceLaws.{RescaledTextsAreRead as RescaledTextsAreReadAgain}
 use Rattle.um_scale.proofs.RescaledCalls.{all_rescaled, twins_are_scaled, twins_have_free_zeros}
 use Rattle.um_sizes.specs.declared.read.ScalesRefusal.{ScalesRefusal}
 use Rattle.um_sizes.specs.declared.read.ScalesRefusal.TheVariants.{NoBaseUnit, NoMemory}

@@ -18,8 +18,8 @@ use Rattle.um_scaling.specs.FreeNumbers.{IsFreeZero}
 use Rattle.um_scale.specs.Sizes.{sizes}
 use Rattle.um_scale.specs.RescaledLiterals.{misfit_in}
 use Rattle.um_scale.specs.RescaledText.{IsRescaledText}
-use Rattle.um_rescaled.specs.Laws.{Spells}
-use Rattle.um_unplaced.specs.Programs.{unplaced_program}
+use Rattle.um_rescaled.specs.NumberLaws.{Spells}
+use Rattle.um_rescaled.specs.UnplacedPrograms.{unplaced_program}
 use Rattle.um_sizes.specs.BaseSizes.{AreScalesRead}
 use Rattle.um_orders.specs.declared.order.Order.TheVariants.{Rescale, Twin}
 use Rattle.um_orders.specs.Orders.{order_of}

@@ -102,8 +102,8 @@ pub fn rescaled_texts()
     ensures read { RescaledTextsAreRead }
     ensures types { RescaledTextsHaveTheSchemes }
 {
-    um_unplaced::laws::rescaled_texts();
-    um_same_schemes::laws::rescaled_programs();
+    um_rescaled::laws::rescaled_texts();
+    um_rescaled::laws::rescaled_programs();
 }
 
 /// What `twin` was answered with the status of values, of a trap or of the budget's end are the outcomes of both

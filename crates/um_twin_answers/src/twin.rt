@@ -1,5 +1,5 @@
 // The answer about a call that is made twice, in two sizes of the base units.
-ghost use Rattle.std.specs.Prelude.{IfOk, IsTrue, map};
+ghost use Rattle.std.specs.Prelude.{◌≡◌, IfOk, IsTrue, map};
 ghost use Rattle.um_tree.specs.ProgramTree.{program_tree};
 ghost use Rattle.um_tree.specs.ValueTree.{input_tree, outcome_tree};
 ghost use Rattle.um_machine.specs.Machine.{EndsWith};
@@ -21,6 +21,7 @@ use std::alloc::{AllocError, Global};
 use um_call_answers::{ArgumentStop, CallWords, read_asked, rescaled_arguments};
 use um_front::{Answer, Checked, Text, check};
 use um_gen::generate;
+use um_machine::Code;
 use um_reports::{reply_to_literal, reply_to_misfit, reply_to_sizes};
 use um_run::{Call, argument_values};
 use um_scale::{ScaleStop, Scales, Twin, rescale_program, twin};
@@ -212,12 +213,49 @@ fn run_both(
         both.now.budget (outcome_tree t.second)) }
 {
     let code = generate(alloc, both.shaped)?;
-    let rescaled = generate(alloc, other)?;
+    match generate(alloc, other) {
+        Ok(rescaled) => {
+            let ended = run_codes(alloc, both, other, &code, &rescaled, inputs);
+            drop(rescaled);
+            drop(code);
+            ended
+        }
+        Err(stop) => {
+            drop(code);
+            Err(stop)
+        }
+    }
+}
+
+/// The same by the codes, which are kept.
+fn run_codes(
+    alloc: Global,
+    both: &TwinCall,
+    other: &Shaped,
+    code: &Code,
+    rescaled: &Code,
+    inputs: &Inputs,
+) -> Result<Twin, AllocError>
+    requires can { CanTwin both.now.budget both.now.scales.now (program_tree both.now.shaped.now)
+        (call_tree both.now.call.now) }
+    requires other { IsOther both.now.scales.now (program_tree both.now.shaped.now) (program_tree other.now) }
+    requires code { code.now ≡ program_code (program_tree both.now.shaped.now).functions }
+    requires rescaled { rescaled.now ≡ program_code (program_tree other.now).functions }
+    requires fit { AreFitInputs both.now.scales.now (call_tree both.now.call.now)
+        (map input_tree inputs.now.items.items) }
+    ensures first { IfOk result (λ t. EndsWith (program_code (program_tree both.now.shaped.now).functions)
+        both.now.call.now.function (call_values (call_tree both.now.call.now)) both.now.budget
+        (outcome_tree t.first)) }
+    ensures second { IfOk result (λ t. EndsWith
+        (program_code (rescaled_program both.now.scales.now (program_tree both.now.shaped.now)).functions)
+        both.now.call.now.function (rescaled_values both.now.scales.now (call_tree both.now.call.now))
+        both.now.budget (outcome_tree t.second)) }
+{
     let args = argument_values(alloc, &both.call.inputs)?;
     match argument_values(alloc, inputs) {
         Ok(scaled) => {
-            let first = CodeRunner::new(both.shaped, &code);
-            let second = CodeRunner::new(other, &rescaled);
+            let first = CodeRunner::new(both.shaped, code);
+            let second = CodeRunner::new(other, rescaled);
             twin(
                 alloc,
                 &first,

@@ -1,5 +1,5 @@
 -- What is known of a function that is refused for units.
-use Rattle.std.proofs.Common.{◌≡◌, ℕ, ◌+◌, ◌<◌, ◌≤◌, Bool, true, false, cond, List, [], ◌∷◌, map, length, get_or, slice_get, Option, Some, None, Err, refl, sym, ap, ◌∙◌, subst, arith}
+use Rattle.std.proofs.Common.{◌≡◌, ℕ, ◌<◌, ◌≤◌, Bool, true, false, cond, List, ◌∷◌, length, get_or, slice_get, Some, None, Err, refl, sym, ap, ◌∙◌, subst, arith}
 use Rattle.std.specs.Prelude.{All}
 use Rattle.std.proofs.lemmas.List.{length-append}
 use Rattle.std.proofs.lemmas.Option.{slice_get_within}
@@ -14,7 +14,7 @@ use Rattle.um_tree.specs.Shapes.{IsShaped}
 use Rattle.um_tree.proofs.WrittenUnits.{formed_literals_are_closed}
 use Rattle.um_elim.specs.Solution.{own_variables, rigid_units, parameter_rows}
 use Rattle.um_elim.proofs.Cases.{on_test}
-use Rattle.um_slots.specs.Keys.{Key, name}
+use Rattle.um_slots.specs.Keys.{name}
 use Rattle.um_slots.specs.Slots.{function_slots, slot_count, has_slot, place}
 use Rattle.um_slots.proofs.KeyOrder.{place-low}
 use Rattle.um_equal_types.specs.declared.row.Row.{Row}
@@ -27,7 +27,7 @@ use Rattle.um_rows.specs.Solutions.{slot_signature, HaveSchemes}
 use Rattle.um_rows.specs.FirstUnsolvable.{Solving, solved, unsolved, out_of_range, solve, rows_up_to}
 use Rattle.um_rows.specs.RightShapes.{HaveRightShapes}
 use Rattle.um_rows.specs.Generalised.{generalised}
-use Rattle.um_rows.specs.Judgement.{Judgement, has_scheme, too_many_slots, passes_range, has_no_typing, not_general, numbered_scheme, by_slots, by_solution, by_solving, signature_fits, judge}
+use Rattle.um_rows.specs.Judgement.{has_scheme, passes_range, numbered_scheme, by_slots, by_solution, by_solving, signature_fits, judge}
 use Rattle.um_rows.specs.Answers.{AreEquations, StopsFor, HaveVariablesBelow}
 use Rattle.um_rows.specs.Laws.{IsFirstRow}
 use Rattle.um_rows.proofs.JudgementLaws.{judged_untyped_have_none, judged_not_general_have_none}
@@ -49,7 +49,7 @@ use Rattle.um_infer.proofs.Judged.{few_slots, rows_below, parameters_within, own
 use Rattle.um_unit_reasons.specs.declared.failing.Failing.{Failing}
 use Rattle.um_unit_reasons.specs.UnitReasons.{UnitReason, IsUnitReason, refusal, slot_in, unsolvable, rigid_parameters, IsReasonOf}
 use Rattle.um_unit_reasons.specs.VariableNames.{function_variables}
-use Rattle.um_unit_reasons.specs.Answers.{IsRefused, IsLow, IsSound, refusal_of}
+use Rattle.um_unit_reasons.specs.Answers.{IsRefused, IsSound, refusal_of}
 
 -- ---- the row with which it is refused
 unlimited : (rigid : Bool) (row at : ℕ) → IsUnlimited (unsolvable rigid row at)

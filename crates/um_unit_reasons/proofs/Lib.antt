@@ -6,6 +6,9 @@ pub mod OtherSteps
 pub mod TellingSteps
 pub mod FailingSteps
 pub mod SlotFacts
-pub mod FunctionFacts
+mod FunctionFacts
 pub mod UniqueReasons
+mod WideRows
+mod EachCore
+mod EachReason
 mod Examples

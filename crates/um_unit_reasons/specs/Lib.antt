@@ -2,5 +2,7 @@
 pub mod VariableNames
 pub mod TypeTexts
 pub mod UnitReasons
+-- That each refusal has its reason: statements, each proved as the contract of a function of src/laws.rt.
+pub mod Laws
 -- What mirrors the code: what is found on the way.
 pub mod Answers

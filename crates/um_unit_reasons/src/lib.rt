@@ -11,6 +11,7 @@
 
 mod failing;
 mod function;
+pub mod laws;
 mod letters;
 mod named;
 mod names;

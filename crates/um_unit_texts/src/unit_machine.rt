@@ -230,7 +230,10 @@ fn pop_bracket(frames: &mut Frames) -> Option<u32>
 {
     match frames.pop() {
         Some(Frame::InBracket(at)) => Some(at),
-        Some(_) => None,
+        Some(frame) => {
+            drop(frame);
+            None
+        }
         None => None,
     }
 }

@@ -1,6 +1,6 @@
 mod Firsts
 mod Scalars
-pub mod NameTests
+mod NameTests
 mod TakenNames
 mod OverRecords
 mod RecordHeads
@@ -15,3 +15,7 @@ mod EachBody
 mod Taken
 mod TakenMany
 mod TopFits
+pub mod Decisions
+mod DecidedNames
+mod DecidedHeads
+mod DecidedAddresses

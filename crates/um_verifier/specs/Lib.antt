@@ -1,6 +1,6 @@
 -- What a reader must trust: why an image is refused.
 pub mod Refusals
--- What refusals come to: a statement, proved as the contract of the function of src/laws.rt.
+-- What refusals come to: statements, each proved as the contract of a function of src/laws.rt.
 pub mod Laws
 -- What mirrors the code: shapes and tables as they are kept, and what is known after some heads.
 pub mod Tables

@@ -1,6 +1,6 @@
 //! The rules of an image's functions, before their code is looked at.
 ghost use Rattle.std.specs.Prelude.{◌≡◌, ◌≤◌, ◌&&◌, ℕ, All, true, false, map, slice_get, Some, IfOk, MatchOption};
-ghost use Rattle.std.specs.Prelude.{MatchResult, []};
+ghost use Rattle.std.specs.Prelude.{MatchResult, OnOk, IfErr, []};
 ghost use Rattle.um_tree.specs.TypeTree.{shape_tree};
 ghost use Rattle.um_tree.specs.Heights.{greatest_height};
 ghost use Rattle.um_shape.specs.RecordShapes.{shape_height};
@@ -93,17 +93,23 @@ fn checked_head(
     known_head(alloc, known, head)
 }
 
-/// The functions are known too, if each holds.
-fn add_heads(alloc: Global, mut known: Known, image: &Image) -> Result<Known, VerifyStop>
+/// Adds the functions to what is known, one after another, if each holds.
+fn add_each_head(
+    alloc: Global,
+    known: &mut Known,
+    names: &mut NameTable,
+    image: &Image,
+) -> Result<(), VerifyStop>
     requires form { HasForm (image_tree image.now) }
-    requires records { AreKnownRecords (image_tree image.now).records known }
-    ensures { MatchResult result (AreKnownHeads (image_tree image.now)) (IsRefusal (image_tree image.now)) }
+    requires records { AreKnownRecords (image_tree image.now).records known.old }
+    requires names { names.old ≡ [] }
+    ensures heads { OnOk result (AreKnownHeads (image_tree image.now) known.new) }
+    ensures refusal { IfErr result (IsRefusal (image_tree image.now)) }
 {
     let heads: &[Head] = &image.heads.items;
-    let mut names = NameTable::with_digest(alloc, heads_digest(heads));
     let entries = image.code.entries.as_slice();
     for k in 0..heads.len() {
-        match checked_head(alloc, &known, &mut names, &heads[k], entries[k])? {
+        match checked_head(alloc, known, names, &heads[k], entries[k])? {
             None => {
                 return Err(VerifyStop::Head {
                     index: (image.records.items.len() + k) as u32,
@@ -112,7 +118,27 @@ fn add_heads(alloc: Global, mut known: Known, image: &Image) -> Result<Known, Ve
             Some(h) => known.heads.push(h)?,
         }
     }
-    Ok(known)
+    Ok(())
+}
+
+/// The functions are known too, if each holds.
+fn add_heads(alloc: Global, mut known: Known, image: &Image) -> Result<Known, VerifyStop>
+    requires form { HasForm (image_tree image.now) }
+    requires records { AreKnownRecords (image_tree image.now).records known }
+    ensures { MatchResult result (AreKnownHeads (image_tree image.now)) (IsRefusal (image_tree image.now)) }
+{
+    let mut names = NameTable::with_digest(alloc, heads_digest(&image.heads.items));
+    match add_each_head(alloc, &mut known, &mut names, image) {
+        Ok(()) => {
+            drop(names);
+            Ok(known)
+        }
+        Err(stop) => {
+            drop(names);
+            drop(known);
+            Err(stop)
+        }
+    }
 }
 
 /// What is known of the image, if each of its heads holds.

@@ -24,6 +24,6 @@ mod verified;
 mod view;
 
 pub use check::verify;
-pub use laws::refusals_of_images;
+pub use laws::{images_are_answered, refusals_of_images};
 pub use stop::VerifyStop;
 pub use verified::Verified;

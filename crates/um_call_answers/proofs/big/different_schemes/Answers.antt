@@ -19,16 +19,16 @@ loop-scheme-preserved c =
     let more : map f (map scheme_tree (take (i + 1) ss)) ≡ before ++ t ∷ [] =
     ap (λ l. map f (map scheme_tree l)) (take_more ss i s c.loop-scheme-test.true ∙ ap (λ u. take i ss ++ u ∷ []) (sym c.scheme-item.is))
     ∙ ap (map f) (map-append scheme_tree (take i ss) (s ∷ [])) ∙ map-append f (map scheme_tree (take i ss)) (scheme_tree s ∷ []) in
-    let printed = c.deref.ensures.value ∙ c.in_ok-text.ensures ∙ ap (λ n. scheme_text p n (scheme_tree s)) c.empty-unnamed.ensures in
-    let added : c.add.new.self ≡ cond (is_among kept t) kept (kept ++ t ∷ []) =
-    c.in_ok-add.ensures ∙ ap (λ u. cond (is_among kept u) kept (kept ++ u ∷ [])) printed in
-    subst (HoldsOnce c.add.new.self) (sym more)
+    let unnamed : scheme_text p c.empty-unnamed.result (scheme_tree s) ≡ t = ap (λ n. scheme_text p n (scheme_tree s)) c.empty-unnamed.ensures in
+    let added : c.add_text.new.texts ≡ cond (is_among kept t) kept (kept ++ t ∷ []) =
+    c.in-Ok.ensures ∙ ap (λ u. cond (is_among kept u) kept (kept ++ u ∷ [])) unnamed in
+    subst (HoldsOnce c.add_text.new.texts) (sym more)
     (subst (λ k. HoldsOnce k (before ++ t ∷ [])) (sym added) (one_more_held kept before t c.loop-scheme.invariant))
 
 pub returns : goal.returns
 returns c =
     let p = program_tree c.args.program.now in let ss = c.deref-schemes.result.now in let i = c.loop-scheme.scheme-index in
     let f = scheme_text p [] in
-    c.count.ensures
+    c.count-count.ensures
     ∙ held_counted c.loop-scheme.texts (map f (map scheme_tree (take i ss))) c.loop-scheme.invariant
     ∙ ap (λ l. distinct_count bytes_eq (map f (map scheme_tree l))) (take_all i ss c.loop-scheme-test.false ∙ c.deref-schemes.ensures.value)

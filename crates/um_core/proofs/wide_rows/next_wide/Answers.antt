@@ -1,5 +1,5 @@
 use Rattle.std.proofs.Common.{◌<◌, length, [], ◌∷◌, ◌++◌, take, subst, sym, ap, ◌∙◌, arith}
-use Rattle.std.proofs.lemmas.List.{append_assoc}
+use Rattle.std.proofs.lemmas.List.{append_assoc, append-nil, take_all}
 use Rattle.std.proofs.lemmas.List.Elements.{All-get_or}
 use Rattle.um_elim.specs.Instances.{SolvesExactly}
 use Rattle.um_elim.specs.Solution.{parameter_rows}
@@ -32,6 +32,26 @@ loop-i-preserved c =
           (picked_more slots given rows list i row (omega (arith, c.loop-i-test.true)) within c.index-rows-list.is)
           (when_joined c.loop-i.units.items c.eliminate.new.units.items row.unit c.in_ok-eliminate.field-0 c.if-not-branch.false c.in_ok-eliminate.ensures.right slots bases parameters (picked slots given (units_of rows) (take i list)) c.loop-i.invariant.0)),
       c.in_ok-eliminate.ensures.narrow,
+    )
+
+pub bounds-rows-list : goal.bounds-rows-list
+bounds-rows-list c = All-get_or (λ k. k < length c.args.rows.now) c.args.list.now c.loop-i.i 0 (omega (arith, c.loop-i-test.true)) c.requires.list
+
+pub eliminate-requires-clause-variables : goal.eliminate-requires-clause-variables
+eliminate-requires-clause-variables c =
+    let rows = c.args.rows.now in
+    let list = c.args.list.now in
+    let within = All-get_or (λ k. k < length rows) list c.loop-i.i 0 (omega (arith, c.loop-i-test.true)) c.requires.list in
+    row_below c.args.slots (length c.loop-i.units.items) rows _ c.index-rows-list.result c.loop-i.invariant.0.count within c.index-rows-list.is c.requires.variables
+
+pub loop-j-init : goal.loop-j-init
+loop-j-init c =
+    let slots = c.args.slots in
+    let part = picked slots (parameter_rows c.args.bases c.args.parameters) (units_of c.args.rows.now) in
+    let list = c.args.list.now in (
+      subst (λ rs. AreSolved slots c.args.bases c.args.parameters rs c.loop-i.units.items)
+          (ap part (take_all c.loop-i.i list c.loop-i-test.false) ∙ sym (append-nil (part list))) c.loop-i.invariant.0,
+      c.loop-i.invariant.1,
     )
 
 pub eliminate-requires-in-loop-j-clause-variables : goal.eliminate-requires-in-loop-j-clause-variables

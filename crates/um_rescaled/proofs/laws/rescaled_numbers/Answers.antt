@@ -1,4 +1,4 @@
-use Rattle.um_rescaled.proofs.Programs.{numbers_unsigned, programs_rescaled}
+use Rattle.um_rescaled.proofs.RescaledPrograms.{numbers_unsigned, programs_rescaled}
 use Rattle.um_rescaled.proofs.laws.rescaled_numbers.Goals as goal
 
 pub returns-clause-unsigned : goal.returns-clause-unsigned

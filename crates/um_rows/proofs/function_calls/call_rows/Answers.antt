@@ -3,8 +3,8 @@ use Rattle.std.specs.Prelude.{All, IfOk, IfErr, MatchResult}
 use Rattle.std.proofs.lemmas.List.{length-map}
 use Rattle.std.proofs.lemmas.Option.{slice_get_read}
 use Rattle.um_tree.specs.declared.program.Program.{Program}
-use Rattle.um_tree.specs.TypeTree.{shape_tree, note_tree}
-use Rattle.um_tree.specs.ExprTree.{call, expr_tree, in_order}
+use Rattle.um_tree.specs.TypeTree.{note_tree}
+use Rattle.um_tree.specs.ExprTree.{call, expr_tree}
 use Rattle.um_tree.specs.ValueTree.{input_trees}
 use Rattle.um_tree.specs.ProgramTree.{function_tree, record_tree, program_tree, scheme_tree}
 use Rattle.um_tree.specs.Shapes.{note_shape}
@@ -16,8 +16,8 @@ use Rattle.um_rows.proofs.ProgramRows.{closed_before, closed_records}
 use Rattle.um_rows.proofs.ProgramCalls.{calls_ok, calls_err, calls_results}
 use Rattle.um_rows.proofs.function_calls.call_rows.Goals as goal
 
-pub equations-requires-clause-schemes : goal.equations-requires-clause-schemes
-equations-requires-clause-schemes c =
+pub equations-rows-requires-clause-schemes : goal.equations-rows-requires-clause-schemes
+equations-rows-requires-clause-schemes c =
     let q = c.program-program.result.now in
     let same = c.program-program.ensures.program in
     let functions = q.functions.items.items in
@@ -26,13 +26,13 @@ equations-requires-clause-schemes c =
     let schemes = c.args.schemes.now.items.items in
     let here = subst (λ (x : Program). HaveVariablesBelow (length (program_tree x).functions) (map scheme_tree schemes)) (sym same) c.requires.schemes in
     let there = subst (λ m. HaveVariablesBelow m (map scheme_tree schemes)) (sym count) here in
-    subst (AreClosedBefore n) (sym c.deref-5.ensures.value) (closed_before n schemes there)
+    subst (AreClosedBefore n) (sym c.deref-4.ensures.value) (closed_before n schemes there)
 
-pub equations-requires-clause-records : goal.equations-requires-clause-records
-equations-requires-clause-records c =
+pub equations-rows-requires-clause-records : goal.equations-rows-requires-clause-records
+equations-rows-requires-clause-records c =
     let q = c.program-program.result.now in
     let same = c.program-program.ensures.program in
-    subst (All IsClosedRecord) (sym c.deref-4.ensures.value) (closed_records q (subst (λ (x : Program). IsFormed (program_tree x)) (sym same) c.program-program.ensures.formed))
+    subst (All IsClosedRecord) (sym c.deref-3.ensures.value) (closed_records q (subst (λ (x : Program). IsFormed (program_tree x)) (sym same) c.program-program.ensures.formed))
 
 pub returns-clause-equations : goal.returns-clause-equations
 returns-clause-equations c =
@@ -49,17 +49,13 @@ returns-clause-equations c =
     let there = slice_get_read functions (length functions) k f refl below c.index-function.ensures in
     let n = c.len-number.result in
     let count : n ≡ length (program_tree q).functions = omega (arith, c.len-number.ensures, length-map functions function_tree) in
-    let shapes = map shape_tree c.in_ok-shapes.shapes.items in
-    let shapes_are : shapes ≡ map note_shape (map note_tree f.params.items.items) = c.in_ok-shapes.ensures ∙ ap (λ ns. map note_shape (map note_tree ns)) c.deref.ensures.value in
-    let items = in_order (map expr_tree c.in_ok-items.items.items) in
-    let items_are : items ≡ input_texts (program_tree q).records (map note_shape (map note_tree f.params.items.items)) inputs =
-    c.in_ok-items.ensures ∙ ap (λ rs. input_texts (map record_tree rs) (map shape_tree c.deref-3.result.now) inputs) c.deref-2.ensures.value
-    ∙ ap (λ ss. input_texts (program_tree q).records (map shape_tree ss) inputs) c.deref-3.ensures.value ∙ ap (λ ss. input_texts (program_tree q).records ss inputs) shapes_are in
-    let body = expr_tree c.call_of-body.result in
-    let body_is : body ≡ call 0 k (input_texts (program_tree q).records (map note_shape (map note_tree f.params.items.items)) inputs) = c.call_of-body.ensures ∙ ap (call 0 k) items_are in
-    let answer = subst (λ ss. MatchResult c.equations.result (AreEquations (program_tree q).records (map scheme_tree ss) n (described 0 false 0 [] None body)) (StopsFor (program_tree q).records (map scheme_tree ss) n (described 0 false 0 [] None body))) c.deref-5.ensures.value
-    (subst (λ rs. MatchResult c.equations.result (AreEquations (map record_tree rs) (map scheme_tree c.deref-5.result.now) n (described 0 false 0 [] None body)) (StopsFor (map record_tree rs) (map scheme_tree c.deref-5.result.now) n (described 0 false 0 [] None body))) c.deref-4.ensures.value c.equations.ensures) in
-    subst (λ (x : Program). IfOk c.equations.result (AreCallRowsOf (program_tree x) (map scheme_tree schemes) k inputs)) same (calls_ok q formed (map scheme_tree schemes) k f there inputs n count body body_is c.equations.result answer)
+    let body = expr_tree c.in_ok-body.body in
+    let body_is : body ≡ call 0 k (input_texts (program_tree q).records (map note_shape (map note_tree f.params.items.items)) inputs) =
+    c.in_ok-body.ensures ∙ ap (λ rs. call 0 k (input_texts (map record_tree rs) (map note_shape (map note_tree c.deref-2.result.now)) inputs)) c.deref.ensures.value
+    ∙ ap (λ ns. call 0 k (input_texts (program_tree q).records (map note_shape (map note_tree ns)) inputs)) c.deref-2.ensures.value in
+    let answer = subst (λ ss. MatchResult c.equations-rows.result (AreEquations (program_tree q).records (map scheme_tree ss) n (described 0 false 0 [] None body)) (StopsFor (program_tree q).records (map scheme_tree ss) n (described 0 false 0 [] None body))) c.deref-4.ensures.value
+    (subst (λ rs. MatchResult c.equations-rows.result (AreEquations (map record_tree rs) (map scheme_tree c.deref-4.result.now) n (described 0 false 0 [] None body)) (StopsFor (map record_tree rs) (map scheme_tree c.deref-4.result.now) n (described 0 false 0 [] None body))) c.deref-3.ensures.value c.equations-rows.ensures) in
+    subst (λ (x : Program). IfOk c.equations-rows.result (AreCallRowsOf (program_tree x) (map scheme_tree schemes) k inputs)) same (calls_ok q formed (map scheme_tree schemes) k f there inputs n count body body_is c.equations-rows.result answer)
 
 pub returns-clause-stops : goal.returns-clause-stops
 returns-clause-stops c =
@@ -76,17 +72,13 @@ returns-clause-stops c =
     let there = slice_get_read functions (length functions) k f refl below c.index-function.ensures in
     let n = c.len-number.result in
     let count : n ≡ length (program_tree q).functions = omega (arith, c.len-number.ensures, length-map functions function_tree) in
-    let shapes = map shape_tree c.in_ok-shapes.shapes.items in
-    let shapes_are : shapes ≡ map note_shape (map note_tree f.params.items.items) = c.in_ok-shapes.ensures ∙ ap (λ ns. map note_shape (map note_tree ns)) c.deref.ensures.value in
-    let items = in_order (map expr_tree c.in_ok-items.items.items) in
-    let items_are : items ≡ input_texts (program_tree q).records (map note_shape (map note_tree f.params.items.items)) inputs =
-    c.in_ok-items.ensures ∙ ap (λ rs. input_texts (map record_tree rs) (map shape_tree c.deref-3.result.now) inputs) c.deref-2.ensures.value
-    ∙ ap (λ ss. input_texts (program_tree q).records (map shape_tree ss) inputs) c.deref-3.ensures.value ∙ ap (λ ss. input_texts (program_tree q).records ss inputs) shapes_are in
-    let body = expr_tree c.call_of-body.result in
-    let body_is : body ≡ call 0 k (input_texts (program_tree q).records (map note_shape (map note_tree f.params.items.items)) inputs) = c.call_of-body.ensures ∙ ap (call 0 k) items_are in
-    let answer = subst (λ ss. MatchResult c.equations.result (AreEquations (program_tree q).records (map scheme_tree ss) n (described 0 false 0 [] None body)) (StopsFor (program_tree q).records (map scheme_tree ss) n (described 0 false 0 [] None body))) c.deref-5.ensures.value
-    (subst (λ rs. MatchResult c.equations.result (AreEquations (map record_tree rs) (map scheme_tree c.deref-5.result.now) n (described 0 false 0 [] None body)) (StopsFor (map record_tree rs) (map scheme_tree c.deref-5.result.now) n (described 0 false 0 [] None body))) c.deref-4.ensures.value c.equations.ensures) in
-    subst (λ (x : Program). IfErr c.equations.result (CallRowsStopFor (program_tree x) (map scheme_tree schemes) k inputs)) same (calls_err q formed (map scheme_tree schemes) k f there inputs n count body body_is c.equations.result answer)
+    let body = expr_tree c.in_ok-body.body in
+    let body_is : body ≡ call 0 k (input_texts (program_tree q).records (map note_shape (map note_tree f.params.items.items)) inputs) =
+    c.in_ok-body.ensures ∙ ap (λ rs. call 0 k (input_texts (map record_tree rs) (map note_shape (map note_tree c.deref-2.result.now)) inputs)) c.deref.ensures.value
+    ∙ ap (λ ns. call 0 k (input_texts (program_tree q).records (map note_shape (map note_tree ns)) inputs)) c.deref-2.ensures.value in
+    let answer = subst (λ ss. MatchResult c.equations-rows.result (AreEquations (program_tree q).records (map scheme_tree ss) n (described 0 false 0 [] None body)) (StopsFor (program_tree q).records (map scheme_tree ss) n (described 0 false 0 [] None body))) c.deref-4.ensures.value
+    (subst (λ rs. MatchResult c.equations-rows.result (AreEquations (map record_tree rs) (map scheme_tree c.deref-4.result.now) n (described 0 false 0 [] None body)) (StopsFor (map record_tree rs) (map scheme_tree c.deref-4.result.now) n (described 0 false 0 [] None body))) c.deref-3.ensures.value c.equations-rows.ensures) in
+    subst (λ (x : Program). IfErr c.equations-rows.result (CallRowsStopFor (program_tree x) (map scheme_tree schemes) k inputs)) same (calls_err q formed (map scheme_tree schemes) k f there inputs n count body body_is c.equations-rows.result answer)
 
 pub returns-clause-results : goal.returns-clause-results
 returns-clause-results c =
@@ -103,14 +95,10 @@ returns-clause-results c =
     let there = slice_get_read functions (length functions) k f refl below c.index-function.ensures in
     let n = c.len-number.result in
     let count : n ≡ length (program_tree q).functions = omega (arith, c.len-number.ensures, length-map functions function_tree) in
-    let shapes = map shape_tree c.in_ok-shapes.shapes.items in
-    let shapes_are : shapes ≡ map note_shape (map note_tree f.params.items.items) = c.in_ok-shapes.ensures ∙ ap (λ ns. map note_shape (map note_tree ns)) c.deref.ensures.value in
-    let items = in_order (map expr_tree c.in_ok-items.items.items) in
-    let items_are : items ≡ input_texts (program_tree q).records (map note_shape (map note_tree f.params.items.items)) inputs =
-    c.in_ok-items.ensures ∙ ap (λ rs. input_texts (map record_tree rs) (map shape_tree c.deref-3.result.now) inputs) c.deref-2.ensures.value
-    ∙ ap (λ ss. input_texts (program_tree q).records (map shape_tree ss) inputs) c.deref-3.ensures.value ∙ ap (λ ss. input_texts (program_tree q).records ss inputs) shapes_are in
-    let body = expr_tree c.call_of-body.result in
-    let body_is : body ≡ call 0 k (input_texts (program_tree q).records (map note_shape (map note_tree f.params.items.items)) inputs) = c.call_of-body.ensures ∙ ap (call 0 k) items_are in
-    let answer = subst (λ ss. MatchResult c.equations.result (AreEquations (program_tree q).records (map scheme_tree ss) n (described 0 false 0 [] None body)) (StopsFor (program_tree q).records (map scheme_tree ss) n (described 0 false 0 [] None body))) c.deref-5.ensures.value
-    (subst (λ rs. MatchResult c.equations.result (AreEquations (map record_tree rs) (map scheme_tree c.deref-5.result.now) n (described 0 false 0 [] None body)) (StopsFor (map record_tree rs) (map scheme_tree c.deref-5.result.now) n (described 0 false 0 [] None body))) c.deref-4.ensures.value c.equations.ensures) in
-    subst (λ (x : Program). IfOk c.equations.result (ResultsAreSolutionsOf (program_tree x) (map scheme_tree schemes) k inputs)) same (calls_results q formed (map scheme_tree schemes) k f there inputs n count body body_is (subst (λ (x : Program). AreFormedInputs (length (program_tree x).bases) inputs) (sym same) c.requires.inputs) c.equations.result answer)
+    let body = expr_tree c.in_ok-body.body in
+    let body_is : body ≡ call 0 k (input_texts (program_tree q).records (map note_shape (map note_tree f.params.items.items)) inputs) =
+    c.in_ok-body.ensures ∙ ap (λ rs. call 0 k (input_texts (map record_tree rs) (map note_shape (map note_tree c.deref-2.result.now)) inputs)) c.deref.ensures.value
+    ∙ ap (λ ns. call 0 k (input_texts (program_tree q).records (map note_shape (map note_tree ns)) inputs)) c.deref-2.ensures.value in
+    let answer = subst (λ ss. MatchResult c.equations-rows.result (AreEquations (program_tree q).records (map scheme_tree ss) n (described 0 false 0 [] None body)) (StopsFor (program_tree q).records (map scheme_tree ss) n (described 0 false 0 [] None body))) c.deref-4.ensures.value
+    (subst (λ rs. MatchResult c.equations-rows.result (AreEquations (map record_tree rs) (map scheme_tree c.deref-4.result.now) n (described 0 false 0 [] None body)) (StopsFor (map record_tree rs) (map scheme_tree c.deref-4.result.now) n (described 0 false 0 [] None body))) c.deref-3.ensures.value c.equations-rows.ensures) in
+    subst (λ (x : Program). IfOk c.equations-rows.result (ResultsAreSolutionsOf (program_tree x) (map scheme_tree schemes) k inputs)) same (calls_results q formed (map scheme_tree schemes) k f there inputs n count body body_is (subst (λ (x : Program). AreFormedInputs (length (program_tree x).bases) inputs) (sym same) c.requires.inputs) c.equations-rows.result answer)

@@ -22,7 +22,7 @@ returns-clause-exact c =
     let t = known_of c.in_ok-tables.tables in
     let whole : resolved_signature t (map type_syntax c.deref.result.now) ≡ resolved_signature (given p ss) ts =
     ap (λ (rs : List RawType). resolved_signature t (map type_syntax rs)) c.deref.ensures.value ∙ ap (λ (k : Known). resolved_signature k ts) c.in_ok-tables.ensures.known ∙ signature_alike p ss ts in
-    subst (λ (r : Found SignatureTypes). IfOk c.signature.result (λ found. r ≡ Ok (record { types = type_trees found.0; vars = found.1 }))) whole c.signature.ensures.exact
+    subst (λ (r : Found SignatureTypes). IfOk c.signature-found.result (λ found. r ≡ Ok (record { types = type_trees found.0; vars = found.1 }))) whole c.signature-found.ensures.exact
 
 pub returns-clause-faults : goal.returns-clause-faults
 returns-clause-faults c =
@@ -32,10 +32,10 @@ returns-clause-faults c =
     let t = known_of c.in_ok-tables.tables in
     let whole : resolved_signature t (map type_syntax c.deref.result.now) ≡ resolved_signature (given p ss) ts =
     ap (λ (rs : List RawType). resolved_signature t (map type_syntax rs)) c.deref.ensures.value ∙ ap (λ (k : Known). resolved_signature k ts) c.in_ok-tables.ensures.known ∙ signature_alike p ss ts in
-    subst (λ (r : Found SignatureTypes). IfErr c.signature.result (IsFirst r)) whole c.signature.ensures.faults
+    subst (λ (r : Found SignatureTypes). IfErr c.signature-found.result (IsFirst r)) whole c.signature-found.ensures.faults
 
 pub returns-clause-never_twice : goal.returns-clause-never_twice
 returns-clause-never_twice c =
     let t = known_of c.in_ok-tables.tables in
     let ts = map type_syntax c.deref.result.now in
-    no_twice (resolved_signature t ts) c.signature.result (signature_is_never_twice t ts) c.signature.ensures.faults
+    no_twice (resolved_signature t ts) c.signature-found.result (signature_is_never_twice t ts) c.signature-found.ensures.faults

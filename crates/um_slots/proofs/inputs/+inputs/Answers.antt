@@ -1,13 +1,12 @@
 use Rattle.std.proofs.Common.{◌≡◌, ◌+◌, ◌<◌, length, map, ◌++◌, ◌∷◌, [], subst, sym, ap, ◌∙◌, arith, rules}
-use Rattle.std.proofs.lemmas.Bool.Decides.{nat_tests}
-use Rattle.um_tree.specs.declared.expression.Expr.{the_lemmas}
+use Rattle.std.specs.Prelude.{IfOk}
 use Rattle.um_tree.specs.declared.value.Input.{the_lemmas as the_input_lemmas}
 use Rattle.um_tree.specs.TypeTree.{shape_tree}
-use Rattle.um_tree.specs.ExprTree.{list_expr, expr_tree, in_order}
+use Rattle.um_tree.specs.ExprTree.{ExprTree, expr_tree, in_order}
 use Rattle.um_tree.specs.ProgramTree.{record_tree}
 use Rattle.um_tree.specs.ValueTree.{list_input, input_tree, inputs_in_order}
 use Rattle.um_slots.specs.CallFunction.{open_note, item_shape, list_of, input_text, item_texts}
-use Rattle.um_slots.proofs.InputLoops.{ItemsLeft, TextsLeft, items_next, items_last, texts_next, texts_last, list-some}
+use Rattle.um_slots.proofs.InputLoops.{ItemsLeft, TextsLeft, items_next, items_last, texts_next, texts_last}
 use Rattle.um_slots.proofs.inputs.+inputs.Goals as goal
 
 pub input_exprs-loop-i-preserved : goal.input_exprs-loop-i-preserved
@@ -39,14 +38,13 @@ item_exprs-loop-i-preserved t c =
 pub item_exprs-returns : goal.item_exprs-returns
 item_exprs-returns t c = items_last (map record_tree c.args.records.now) (shape_tree c.args.shape.now) c.args.inputs.now c.loop-i.i c.loop-i.items.items (omega (arith, c.loop-i-test.false)) c.loop-i.invariant
 
-pub input_expr-returns-else-is_empty : goal.input_expr-returns-else-is_empty
-input_expr-returns-else-is_empty t c =
+pub input_expr-returns-in-Ok : goal.input_expr-returns-in-Ok
+input_expr-returns-in-Ok t c =
     let records = map record_tree c.args.records.now in
     let shape = shape_tree c.args.shape.now in
-    let items = c.in_ok-items-in-List.items.items in
+    let items = in_order (map expr_tree c.in-Ok.items.items) in
     let inputs = inputs_in_order (map input_tree c.deref.result.now) in
     let seen : input_tree c.args.input.now ≡ list_input inputs = search (rules, the_input_lemmas) in
-    let some : 0 < length items = grind (arith, nat_tests) in
-    let all : in_order (map expr_tree items) ≡ item_texts records (item_shape shape) inputs = c.in_ok-items-in-List.ensures ∙ ap (λ s. item_texts records s inputs) c.item_shape.ensures in
-    let whole : list_expr 0 (in_order (map expr_tree items)) ≡ input_text records shape (input_tree c.args.input.now) = sym (list-some (open_note records shape) items some) ∙ ap (list_of (open_note records shape)) all ∙ ap (input_text records shape) (sym seen) in
-    search (rules, whole, the_lemmas)
+    let all : items ≡ item_texts records (item_shape shape) inputs = c.in-Ok.ensures ∙ ap (λ s. item_texts records s inputs) c.item_shape.ensures in
+    let whole : list_of (open_note records shape) items ≡ input_text records shape (input_tree c.args.input.now) = ap (list_of (open_note records shape)) all ∙ ap (input_text records shape) (sym seen) in
+    subst (λ (text : ExprTree). IfOk c.list_expr.result (λ e. expr_tree e ≡ text)) whole c.list_expr.ensures

@@ -1,3 +1,0 @@
-pub mod ReplacedSteps
-pub mod OtherHoles
-pub mod AnySchemes

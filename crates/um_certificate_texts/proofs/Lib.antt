@@ -1,6 +1,0 @@
-mod Cuts
-mod Names
-mod UnitTexts
-mod Lines
-mod Certificates
-mod Made

@@ -1,5 +1,0 @@
-mod Instantiated
-mod Products
-mod MovedTypes
-mod Rigid
-pub mod Certified

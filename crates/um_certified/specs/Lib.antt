@@ -1,2 +1,0 @@
--- What a reader must trust: the laws.
-pub mod Laws

@@ -1,9 +1,0 @@
-mod Arguments
-mod Named
-mod Steps
-mod Outcomes
-mod Calls
-mod Twins
-mod UnitWords
-mod Lines
-mod Images

@@ -1,2 +1,0 @@
--- What a reader must trust: that each call has an answer.
-pub mod Laws

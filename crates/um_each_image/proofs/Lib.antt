@@ -1,4 +1,0 @@
-pub mod Decisions
-mod Names
-mod Heads
-mod Addresses

@@ -1,3 +1,0 @@
-mod WideRows
-mod Cores
-mod Reasons

@@ -1,9 +1,0 @@
-mod Alike
-mod Ends
-mod Respelled
-mod RespelledBytes
-mod CaretTokens
-mod UnitPowers
-mod ExprPowers
-mod Powers
-mod Programs

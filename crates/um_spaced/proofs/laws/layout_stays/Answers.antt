@@ -1,5 +1,0 @@
-use Rattle.um_spaced.proofs.ProgramStays.{layout_stays}
-use Rattle.um_spaced.proofs.laws.layout_stays.Goals as goal
-
-pub returns : goal.returns
-returns c = layout_stays

@@ -1,5 +1,0 @@
-use Rattle.um_spaced.proofs.ProgramStays.{program_stays}
-use Rattle.um_spaced.proofs.laws.program_stays.Goals as goal
-
-pub returns : goal.returns
-returns c = program_stays

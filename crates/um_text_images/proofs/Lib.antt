@@ -1,5 +1,0 @@
-mod Powers
-mod Bodies
-mod Operands
-mod Numbers
-mod Written

@@ -1,6 +1,0 @@
-mod Narrow
-mod Rows
-mod Certificates
-mod Refusals
-mod Programs
-mod Texts

@@ -1,5 +1,0 @@
-use Rattle.um_unplaced.proofs.BareDecls.{same_trees}
-use Rattle.um_unplaced.proofs.laws.same_trees.Goals as goal
-
-pub returns : goal.returns
-returns c = same_trees
