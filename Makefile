@@ -1,6 +1,7 @@
 # Installs what is built, and builds and proves nothing itself: ./build makes the program, embed/build the libraries.
 #
 #   make install PREFIX=/usr/local      installs; DESTDIR=FOLDER puts a folder before all paths
+#   make install-program install-python install-data    the same without the libraries for C, which embed/build makes
 #   make uninstall PREFIX=/usr/local    removes what install put there
 #   make help                           says what may be named
 

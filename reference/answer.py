@@ -4,6 +4,7 @@ from __future__ import annotations
 import os
 import sys
 from collections.abc import Callable
+from typing import Any
 
 from annot import annotated
 from batch import answered
@@ -53,7 +54,7 @@ def stopped(stop: Stop) -> Report:
     return Report(13, "budget") if stop.kind == "budget" else Report(12, stop.kind)
 
 
-def answer_call(command: str, budget: int, name: str, texts: list[str], source: Source, **how) -> str:
+def answer_call(command: str, budget: int, name: str, texts: list[str], source: Source, **how: Any) -> str:
     """The value of a call: `eval` by the tree, all others by the code."""
     program = source.program
     call = read_call(program, source.schemes, name, texts)

@@ -2,6 +2,7 @@
 from __future__ import annotations
 
 from dataclasses import dataclass
+from typing import Any
 
 import earley
 from equations import Scheme
@@ -127,7 +128,7 @@ def read_argument(program: Program, shape: tuple, text: str) -> Expr:
         raise ArgumentFault("power range" if fault.kind == "range" else "name", fault.at) from None
 
 
-def input_value(node: Expr):
+def input_value(node: Expr) -> Any:
     """The value of an argument."""
     if node.kind == "number":
         return node.data
@@ -189,7 +190,7 @@ def read_call(program: Program, schemes: list[Scheme], name: str, texts: list[st
     return Call(number, inputs, type_of_call(program, schemes, number, inputs))
 
 
-def value_fits(program: Program, value, kind: tuple) -> bool:
+def value_fits(program: Program, value: Any, kind: tuple) -> bool:
     """The types of the parts of a value have their powers in range."""
     while kind[0] == "list" and value:
         if not value_fits(program, value[0], kind[1]):
@@ -201,7 +202,7 @@ def value_fits(program: Program, value, kind: tuple) -> bool:
     return all(type_fits(of) and value_fits(program, part, of) for (_, of), part in zip(fields, value))
 
 
-def shown_value(program: Program, value, kind: tuple, **how) -> str:
+def shown_value(program: Program, value: Any, kind: tuple, **how: Any) -> str:
     """The text of a value at the type of its call."""
     if not value_fits(program, value, kind):
         raise Report(10, "power range of the call")

@@ -7,6 +7,8 @@ from __future__ import annotations
 
 import heapq
 from collections import defaultdict
+from collections.abc import Callable
+from typing import Any
 
 from grammar import HIGHEST, TOO_HIGH, Rule
 from lexer import HIGHEST_POWER, Token
@@ -25,7 +27,8 @@ class Item:
 
     __slots__ = ("rule", "dot", "origin", "before", "part", "height", "at")
 
-    def __init__(self, rule: Rule, dot: int, origin: int, before, part, height: int, at: int) -> None:
+    def __init__(self, rule: Rule, dot: int, origin: int, before: Item | None, part: Token | Item | None, height: int,
+                 at: int) -> None:
         self.rule, self.dot, self.origin = rule, dot, origin
         self.before, self.part, self.height, self.at = before, part, height, at
 
@@ -42,7 +45,7 @@ class Item:
             item = item.before
         return found[::-1]
 
-    def tree(self):
+    def tree(self) -> Any:
         """What the rule makes of its parts. The chain of a long list is followed in a loop."""
         item, after = self, []
         while item.rule.action == "more":
@@ -53,7 +56,7 @@ class Item:
         return whole + after[::-1] if after else whole
 
 
-def made(part):
+def made(part: Token | Item) -> Any:
     """The token itself, or what the item makes."""
     return part.tree() if isinstance(part, Item) else part
 
@@ -128,7 +131,7 @@ class Chart:
                 if symbol in empty:
                     add(self.after(item, empty[symbol]))
 
-    def complete(self, item: Item, here: int, empty: dict[str, Item], add) -> None:
+    def complete(self, item: Item, here: int, empty: dict[str, Item], add: Callable[[Item], None]) -> None:
         """Puts a rule that is read wholly into those that wait for it."""
         if item.origin == here:
             empty[item.rule.left] = item
@@ -191,7 +194,7 @@ def first_high(chart: Chart, count: int) -> int | None:
     return high - 1
 
 
-def read(grammar: Grammar, start: str, tokens: list[Token]):
+def read(grammar: Grammar, start: str, tokens: list[Token]) -> Any:
     """The tree of the tokens, or SyntaxFault at the first token that can't stand there or makes the text too high."""
     chart, count = Chart(grammar, start), 0
     while count < len(tokens) and chart.feed(tokens[count]):

@@ -1,6 +1,9 @@
 """`explain`: the answer of `types`, and after a refusal the line of the text and why it is refused."""
 from __future__ import annotations
 
+from collections.abc import Callable
+from fractions import Fraction
+
 from earley import SyntaxFault, terminals
 from equations import Agreement, Row, equations_of
 from front import LimitFault, Report, Source, typed_into
@@ -45,7 +48,8 @@ def excerpt(source: Source, at: int, whole: bool = True) -> list[str]:
 # ---- what could stand at a place
 
 
-def can_stand(fault: SyntaxFault, glued: bool, after: bool, kind: str, text: str, value=None) -> bool:
+def can_stand(fault: SyntaxFault, glued: bool, after: bool, kind: str, text: str,
+              value: Fraction | None = None) -> bool:
     """A token of this kind and text can stand in the place of the refused one."""
     token = Token(kind, text, 0, 0, glued, value, after)
     return bool(terminals(token) & fault.chart.expected())
@@ -259,7 +263,7 @@ def details(source: Source, report: Report) -> list[str]:
     return unit_details(source, cause) if isinstance(cause, Refusal) else []
 
 
-def explained(data: bytes, types) -> str:
+def explained(data: bytes, types: Callable[[Source], str]) -> str:
     """The answer of `types`, or a refusal with its excerpt and its details."""
     source = Source()
     try:

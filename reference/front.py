@@ -54,7 +54,7 @@ class Source:
         return self.tokens[number].start if number < len(self.tokens) else len(self.text)
 
 
-def count_nodes(part) -> int:
+def count_nodes(part: object) -> int:
     """The nodes of an expression, brackets included. Notes, binders and fields' names are none."""
     if isinstance(part, list):
         return sum(count_nodes(inner) for inner in part)

@@ -16,6 +16,7 @@ token.
 from __future__ import annotations
 
 from dataclasses import dataclass, field
+from typing import Any
 
 HIGHEST = 400
 TOO_HIGH = 10**9
@@ -166,7 +167,7 @@ class Rule:
             return TOO_HIGH if parts > HIGHEST else self.fixed
         return min(parts + self.higher, TOO_HIGH)
 
-    def made(self, parts: list, at: int):
+    def made(self, parts: list, at: int) -> Any:
         """What the rule makes of its parts."""
         if self.action == "pass":
             return parts[0] if parts else None

@@ -5,6 +5,7 @@ import struct
 from dataclasses import dataclass, field
 from fractions import Fraction
 from math import gcd
+from typing import Any
 
 from front import Report, Source
 from grammar import HIGHEST
@@ -57,7 +58,7 @@ def shape_bytes(shape: tuple) -> bytes:
     return b"\3" + number_bytes(shape[1]) if shape[0] == "rec" else b"\0" if shape[0] == "bool" else b"\1"
 
 
-def operand_bytes(kind: str, operand) -> bytes:
+def operand_bytes(kind: str, operand: Any) -> bytes:
     """An operand."""
     if kind == "f":
         return struct.pack(">qq", operand.numerator, operand.denominator)
@@ -129,7 +130,7 @@ class Reader:
             return ("list", self.shape(levels - 1))
         return ("rec", self.number()) if kind == 3 else ("bool",) if kind == 0 else ("num",)
 
-    def operand(self, kind: str):
+    def operand(self, kind: str) -> Any:
         """An operand. A fraction is one item of 16 bytes, in lowest terms."""
         if kind == "f":
             above, below = struct.unpack(">qq", self.take(16))

@@ -4,6 +4,7 @@ A text is a string of characters. Places are numbers of characters before, count
 """
 from __future__ import annotations
 
+from collections.abc import Callable
 from dataclasses import dataclass
 from fractions import Fraction
 
@@ -54,7 +55,7 @@ def is_digit(char: str) -> bool:
     return "0" <= char <= "9" and len(char) == 1
 
 
-def run_end(text: str, at: int, test) -> int:
+def run_end(text: str, at: int, test: Callable[[str], bool]) -> int:
     """Where the characters that pass the test end."""
     while at < len(text) and test(text[at]):
         at += 1

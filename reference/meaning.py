@@ -7,6 +7,7 @@ from __future__ import annotations
 
 import operator
 from fractions import Fraction
+from typing import Any
 
 from lexer import in_range
 from notes import Expr, Program
@@ -68,7 +69,7 @@ class Meaning:
         self.open: list[tuple[int, Expr | None]] = []
         self.stopped: Expr | None = None
 
-    def call(self, number: int, values: list, node: Expr | None = None):
+    def call(self, number: int, values: list, node: Expr | None = None) -> Any:
         """A call of a function, which costs one of the budget."""
         if self.budget == 0:
             self.stopped = node
@@ -79,7 +80,7 @@ class Meaning:
         self.open.pop()
         return value
 
-    def value(self, node: Expr, scope: list):
+    def value(self, node: Expr, scope: list) -> Any:
         """The value of an expression, where the variables have these."""
         kind = node.kind
         if kind in ("if", "&&", "||"):
@@ -102,7 +103,7 @@ class Meaning:
             self.stopped = node
             raise
 
-    def choice(self, node: Expr, scope: list):
+    def choice(self, node: Expr, scope: list) -> Any:
         """The parts that are evaluated as the first one decides."""
         first = self.value(node.parts[0], scope)
         if node.kind == "if":
@@ -110,7 +111,7 @@ class Meaning:
         return self.value(node.parts[1], scope) if first == (node.kind == "&&") else first
 
 
-def listed(items: list):
+def listed(items: list) -> tuple:
     """The list of these items."""
     value: tuple = ()
     for item in reversed(items):
@@ -118,7 +119,7 @@ def listed(items: list):
     return value
 
 
-def operation(node: Expr, parts: list):
+def operation(node: Expr, parts: list) -> Any:
     """What a node gives for the values of its parts."""
     kind = node.kind
     if kind in ("+", "-", "*", "/"):

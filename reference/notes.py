@@ -5,6 +5,7 @@ By the section "Names" of docs/LANGUAGE.md. A fault carries what `explain` tells
 from __future__ import annotations
 
 from dataclasses import dataclass, field
+from typing import Any
 
 from grammar import Node
 from units import BASE, BOOL, HOLE, VAR, Unit, atom, fits, mul, over, power_of
@@ -13,7 +14,7 @@ from units import BASE, BOOL, HOLE, VAR, Unit, atom, fits, mul, over, power_of
 class NameFault(Exception):
     """What is wrong with a name (or `range`: a unit text passes the range of powers), where, and more about it."""
 
-    def __init__(self, kind: str, at: int, **about) -> None:
+    def __init__(self, kind: str, at: int, **about: Any) -> None:
         super().__init__(kind, at)
         self.kind, self.at, self.about = kind, at, about
 
@@ -214,7 +215,7 @@ def type_variables(node: Node) -> list[str]:
             if leaf.kind == "variable"]
 
 
-def expression_variables(node) -> list[str]:
+def expression_variables(node: object) -> list[str]:
     """The unit variables of the notes of empty lists in an expression, in order."""
     if isinstance(node, list):
         return [name for part in node for name in expression_variables(part)]

@@ -1,11 +1,16 @@
 """Printed numbers, units, types, schemes and values."""
 from __future__ import annotations
 
+from collections.abc import Callable
 from fractions import Fraction
+from typing import Any
 
 from equations import Scheme
 from notes import Program
 from units import BASE, Unit, by_list, is_closed, put
+
+Naming = Callable[[tuple], tuple[tuple, str]]  # of an atom its order and its text
+Printer = Callable[[Fraction, Unit, Program], str]
 
 
 def number_text(value: Fraction) -> str:
@@ -18,7 +23,7 @@ def letter(number: int) -> str:
     return "'" + "abcdefghijklmnopqrstuvwxyz"[number % 26] + (str(number // 26) if number >= 26 else "")
 
 
-def naming(bases: list[str]):
+def naming(bases: list[str]) -> Naming:
     """The order and the text of an atom: base units in the byte order of their names, and then variables."""
     def named(key: tuple) -> tuple[tuple, str]:
         """The order and the text of one atom."""
@@ -27,7 +32,7 @@ def naming(bases: list[str]):
     return named
 
 
-def unit_text(unit: Unit, bases: list[str], named=None) -> str:
+def unit_text(unit: Unit, bases: list[str], named: Naming | None = None) -> str:
     """The atoms with their powers, the negative ones after one `/`."""
     named = named or naming(bases)
     parts = sorted((named(key) + (power,) for key, power in unit.items()), key=lambda part: part[0])
@@ -37,7 +42,7 @@ def unit_text(unit: Unit, bases: list[str], named=None) -> str:
     return (above + ("/" + below if below else "")) or "1"
 
 
-def type_text(kind: tuple, program: Program, text=None) -> str:
+def type_text(kind: tuple, program: Program, text: Callable[[Unit], str] | None = None) -> str:
     """A type. `text` prints a unit."""
     text = text or (lambda unit: unit_text(unit, program.bases))
     if kind[0] == "list":
@@ -70,7 +75,7 @@ def plain_number(value: Fraction, unit: Unit, program: Program) -> str:
     return number_text(value) + suffix_text(unit, program)
 
 
-def value_text(value, kind: tuple, program: Program, number=plain_number) -> str:
+def value_text(value: Any, kind: tuple, program: Program, number: Printer = plain_number) -> str:
     """A value at its type. A value is a truth value, a fraction, a list as (head, tail) or (), or a list of fields."""
     if kind[0] == "bool":
         return "true" if value else "false"

@@ -10,7 +10,7 @@ from front import Report
 from grammar import UNITS, Node, rules_of
 from lexer import LexFault, in_range, tokens_of
 from notes import NameFault, Program, Units
-from show import plain_number, unit_text
+from show import Printer, plain_number, unit_text
 from units import Unit, is_closed
 
 PARTS = '''
@@ -76,7 +76,7 @@ def decimal_text(value: Fraction, digits: int) -> str:
     return ("~" if rounded != scaled else "") + ("-" if rounded < 0 else "") + text
 
 
-def shower(chosen: list[Chosen], digits: int):
+def shower(chosen: list[Chosen], digits: int) -> Printer:
     """Prints a number at its unit."""
     def number(value: Fraction, unit: Unit, program: Program) -> str:
         """A number as the first part with its unit shows it."""

@@ -6,6 +6,7 @@ other power falls below its own.
 """
 from __future__ import annotations
 
+from collections.abc import Callable
 from dataclasses import dataclass
 
 from equations import Equations, Row, Scheme, equations_of
@@ -42,7 +43,8 @@ def put_at(units: list[Unit], turned: tuple, by: Unit, bounded: bool) -> list[Un
     return changed
 
 
-def eliminate(units: list[Unit], row: Unit, bounded: bool = True, turned=None) -> list[Unit]:
+def eliminate(units: list[Unit], row: Unit, bounded: bool = True,
+              turned: Callable[[int, Unit, bool], None] | None = None) -> list[Unit]:
     """The units of the slots after a row: those that solve it too, and are most general. `turned` hears each turn."""
     row = put_unit(row, by_list(units))
     if bounded and not fits(row):

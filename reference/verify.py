@@ -8,6 +8,7 @@ from grammar import HIGHEST
 from image_form import Head, Image
 from lexer import is_name
 
+
 def is_name_bytes(name: bytes) -> bool:
     """The bytes are those of a name."""
     try:

@@ -7,6 +7,8 @@ import importlib.util
 import subprocess
 import sys
 from pathlib import Path
+from types import ModuleType
+from typing import Any
 
 import pytest
 
@@ -19,7 +21,7 @@ HELD = "held = bytearray({} << 20)\n"
 MOST = Most(0.4, 100)
 
 
-def tool():
+def tool() -> ModuleType:
     """The tool as a module."""
     loader = importlib.machinery.SourceFileLoader("hostile", str(TOOL))
     module = importlib.util.module_from_spec(importlib.util.spec_from_loader("hostile", loader))
@@ -39,7 +41,7 @@ def program(folder: Path, text: str) -> Path:
     return made
 
 
-def ran(folder: Path, text: str, case: Case, most: Most = MOST, has_checks: bool = False):
+def ran(folder: Path, text: str, case: Case, most: Most = MOST, has_checks: bool = False) -> Any:
     """How such a program ends with a case, and what the tool finds wrong."""
     source = folder / "source"
     source.write_bytes(case.make())

@@ -8,6 +8,7 @@ import shutil
 import subprocess
 import sys
 from pathlib import Path
+from typing import Any
 
 import pytest
 
@@ -32,7 +33,7 @@ def need(*programs: str) -> None:
             pytest.skip(f"there is no {program}")
 
 
-def done(*words: str | Path, status: int = 0, **how) -> str:
+def done(*words: str | Path, status: int = 0, **how: Any) -> str:
     """What a command prints, which must end with this status."""
     ran = subprocess.run([str(word) for word in words], capture_output=True, text=True, **how)
     assert ran.returncode == status, f"{words[0]} ended with {ran.returncode}:\n{ran.stdout}{ran.stderr}"

@@ -150,7 +150,7 @@ def not_utf8(page: Page, folder: str) -> str | None:
     with open(path, "wb") as file:
         file.write(b"let k = 1\n// caf\xe9\n")
 
-    def put():
+    def put() -> None:
         found = page.call("Runtime.evaluate", expression="document.getElementById('file')")["result"]["objectId"]
         page.call("DOM.setFileInputFiles", files=[path], objectId=found)
     page.settled(put)

@@ -14,7 +14,7 @@ from units import BASE, VAR, Unit
 
 WHOLE = r"0|[1-9][0-9]*"
 SIGNED = r"0|-?[1-9][0-9]*"
-VARIABLE = re.compile(rf"'([a-z])([1-9][0-9]*)?")
+VARIABLE = re.compile(r"'([a-z])([1-9][0-9]*)?")
 FACTOR = re.compile(r"([^^]+)(?:\^([1-9][0-9]*))?")
 HEAD = re.compile(rf"(\S+) (yes|no|not general) ({WHOLE}) ({SIGNED})")
 UNIT_LINE = re.compile(rf"  (slot|back|rigid) ({WHOLE}): (.+)")

@@ -6,7 +6,9 @@ import importlib.machinery
 import importlib.util
 import subprocess
 import sys
+from collections.abc import Callable
 from pathlib import Path
+from typing import Any
 
 import pytest
 
@@ -44,13 +46,13 @@ def certificates_of(program: bytes | str) -> str:
     return prove(typed(program if isinstance(program, bytes) else program.encode(), True))
 
 
-def test_schemes_follow():
+def test_schemes_follow() -> None:
     """The schemes of all functions."""
     assert shown(MEAN, certificates_of(MEAN)) == [
         "total : num<'a> list -> num<'a>", "count : num<'a> list -> num", "mean : num<'a> list -> num<'a>"]
 
 
-def test_refusals_follow():
+def test_refusals_follow() -> None:
     """The kind and the place of a refusal."""
     assert shown(CUBE, certificates_of(CUBE)) == ["error 9: units of h at 3:54"]
     assert shown(GENERAL, certificates_of(GENERAL)) == ["error 19: not general in f at 3:56"]
@@ -80,14 +82,14 @@ def test_refusals_follow():
     ("count yes", "mean yes", "line 8: this must be the certificate of count"),
     ("total yes 1 1", "error 10: power range", "line 1: no certificate was printed, but error 10: power range"),
 ])
-def test_wrong_certificates(old: str, new: str, expected: str):
+def test_wrong_certificates(old: str, new: str, expected: str) -> None:
     """One change, and the fault that is told."""
     text = certificates_of(MEAN)
     assert old in text
     assert fault(MEAN, text.replace(old, new, 1)) == expected
 
 
-def test_the_whole_text():
+def test_the_whole_text() -> None:
     """No certificate more or less, and each line ended."""
     text = certificates_of(MEAN)
     assert fault(MEAN, text[:text.index("mean")]) == "the certificate of mean is missing"
@@ -114,7 +116,7 @@ def test_the_whole_text():
     (GENERAL, "f no 2 2\n  rows: 1*1\n", "line 1: f: slot 0 has the power 1, which is no multiple of 2"),
     (MEAN, "total no 2 2\n  rows: 1*1\n", "line 1: total: slot 0 has the power 1, which is no multiple of 2"),
 ])
-def test_refusals(program: bytes | str, certificate: str, expected: str | None):
+def test_refusals(program: bytes | str, certificate: str, expected: str | None) -> None:
     """A refusal says which equation is the first, and whether other unit parameters would do."""
     if expected is None:
         assert shown(program, certificate) == shown(program, certificates_of(program))
@@ -122,7 +124,7 @@ def test_refusals(program: bytes | str, certificate: str, expected: str | None):
         assert fault(program, certificate) == expected
 
 
-def test_unit_parameters():
+def test_unit_parameters() -> None:
     """A unit parameter is a unit of its own."""
     text = certificates_of(PARAMETER)
     assert shown(PARAMETER, text) == ["g : num<'a> -> num<'a> -> num<'a>"]
@@ -132,13 +134,13 @@ def test_unit_parameters():
     assert fault(PARAMETER, text[:text.index("  rigid")]) == "line 1: g: 0 lines `rigid`, and there must be 2"
 
 
-def test_other_names_of_variables():
+def test_other_names_of_variables() -> None:
     """The inverse of a variable in its place is the same scheme."""
     text = "k yes 1 1\n  slot 0: /'a\n  back 0: /'a\n"
     assert shown("let k (x: num<_>) = x * x\n", text) == ["k : num</'a> -> num</'a^2>"]
 
 
-def test_power_range():
+def test_power_range() -> None:
     """A function that is refused for the range of powers isn't certified."""
     program = (HOME / "examples" / "refusals" / "powers.um").read_text()
     with pytest.raises(Report, match="power range of"):
@@ -155,7 +157,7 @@ def command(*words: str, given: str = "") -> tuple[int, str, str]:
     return done.returncode, done.stdout, done.stderr
 
 
-def test_command(tmp_path: Path):
+def test_command(tmp_path: Path) -> None:
     """The command line: schemes, equations, faults and files that aren't there."""
     path = tmp_path / "f.um"
     path.write_text(PARAMETER)
@@ -183,7 +185,7 @@ class Inside:
             return report.status, report.line + "\n"
 
 
-def run_of(generated: int, mutated: int):
+def run_of(generated: int, mutated: int) -> Any:
     """A run of tools/certificates on generated programs."""
     loader = importlib.machinery.SourceFileLoader("certificates", str(HOME / "tools" / "certificates"))
     module = importlib.util.module_from_spec(importlib.util.spec_from_loader("certificates", loader))
@@ -196,7 +198,7 @@ def run_of(generated: int, mutated: int):
     return run
 
 
-def test_nothing_false_passes():
+def test_nothing_false_passes() -> None:
     """Of the changed certificates."""
     run = run_of(40, 300)
     assert run.wrong == 0
@@ -216,7 +218,9 @@ def only_in_list(question: judging.Question) -> None:
     ("check_product", only_in_list),
     ("is_solvable", lambda rows, units: True),
 ])
-def test_each_check_is_needed(monkeypatch: pytest.MonkeyPatch, capsys: pytest.CaptureFixture, name: str, instead):
+def test_each_check_is_needed(
+    monkeypatch: pytest.MonkeyPatch, capsys: pytest.CaptureFixture, name: str, instead: Callable
+) -> None:
     """Without it something false passes, and is told."""
     monkeypatch.setattr(judging, name, instead)
     run = run_of(120, 600)

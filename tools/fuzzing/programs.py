@@ -9,6 +9,7 @@ import random
 from dataclasses import dataclass, field
 
 Unit = dict
+Kind = str | tuple  # a type
 NAMES = "x y z w k len sum rest item".split()
 
 
@@ -17,8 +18,8 @@ class Function:
     """A function: its name and the intended types of its parameters and its result."""
 
     name: str
-    params: list
-    result: object
+    params: list[Kind]
+    result: Kind
     text: str = ""
 
 
@@ -28,7 +29,7 @@ class Program:
 
     bases: list[str] = field(default_factory=list)
     shorts: dict[str, Unit] = field(default_factory=dict)
-    records: dict[str, tuple[list[str], list[tuple[str, object]]]] = field(default_factory=dict)
+    records: dict[str, tuple[list[str], list[tuple[str, Kind]]]] = field(default_factory=dict)
     functions: list[Function] = field(default_factory=list)
     lines: list[str] = field(default_factory=list)
 
@@ -54,7 +55,7 @@ def put_unit(unit: Unit, units: dict[str, Unit]) -> Unit:
     return product
 
 
-def put(kind, units: dict[str, Unit]):
+def put(kind: Kind, units: dict[str, Unit]) -> Kind:
     """The type with units in the place of variables."""
     if kind == "bool":
         return kind
@@ -114,7 +115,7 @@ class Maker:
             return "<_>"
         return "" if not unit and self.chance(0.8) else f"<{self.short(unit)}>"
 
-    def type_text(self, kind, open_part: float) -> str:
+    def type_text(self, kind: Kind, open_part: float) -> str:
         """The text of a type, in which some units are left open."""
         if kind == "bool":
             return "bool"
@@ -126,7 +127,7 @@ class Maker:
         units = ["_" if self.chance(open_part) else self.short(unit) for unit in kind[2]]
         return kind[1] + (f"<{', '.join(units)}>" if units else "")
 
-    def type(self, variables: list[str], depth: int = 2):
+    def type(self, variables: list[str], depth: int = 2) -> Kind:
         """A small type."""
         choice = self.rng.random()
         if choice < 0.65 or depth == 0:
@@ -183,7 +184,7 @@ class Maker:
         self.program.lines.append(" ".join([text, *heads]) + f"{noted} = {body}")
         self.program.functions.append(Function(name, params, result))
 
-    def recursion(self, name: str, scope: list, result) -> str:
+    def recursion(self, name: str, scope: list, result: Kind) -> str:
         """A body that calls its own function, on the rest of a list or after a condition."""
         own = lambda change: " ".join([name] + [self.atom(change(binder)) for binder, _ in scope])
         lists = [(binder, kind) for binder, kind in scope if kind != "bool" and kind[0] == "list"]
@@ -201,7 +202,7 @@ class Maker:
             return f"if {binder} < 1 then {base} else {self.joined(result, call, scope)}"
         return base if not scope else f"if {self.expr('bool', scope, 1)} then {base} else {own(lambda other: other)}"
 
-    def joined(self, result, call: str, scope: list) -> str:
+    def joined(self, result: Kind, call: str, scope: list) -> str:
         """What is made of a recursive call."""
         if result != "bool" and result[0] == "num" and self.chance(0.7):
             return f"{self.atom(self.expr(result, scope, 1))} {self.rng.choice('+-')} {call}"
@@ -216,7 +217,7 @@ class Maker:
         simple = text.replace("_", "").replace("'", "").isalnum() and text not in ("let", "if", "match")
         return text if simple and not self.chance(0.03) else f"({text})"
 
-    def expr(self, kind, scope: list, depth: int) -> str:
+    def expr(self, kind: Kind, scope: list, depth: int) -> str:
         """An expression of a type."""
         if depth <= 0 or self.chance(0.15):
             return self.leaf(kind, scope)
@@ -240,7 +241,7 @@ class Maker:
             return self.truth(scope, depth)
         return {"num": self.number, "list": self.items, "rec": self.value}[kind[0]](kind, scope, depth)
 
-    def leaf(self, kind, scope: list) -> str:
+    def leaf(self, kind: Kind, scope: list) -> str:
         """A variable of the type, or a text without parts."""
         known = {name: other for name, other in scope}
         names = [name for name, other in known.items() if other == kind]
@@ -272,11 +273,11 @@ class Maker:
             return f"not {self.atom(self.expr('bool', scope, depth - 1))}"
         return self.between("bool", self.rng.choice(["&&", "||"]), "bool", scope, depth)
 
-    def between(self, left, sign: str, right, scope: list, depth: int) -> str:
+    def between(self, left: Kind, sign: str, right: Kind, scope: list, depth: int) -> str:
         """A sign between two operands of these types."""
         return f"{self.atom(self.expr(left, scope, depth - 1))} {sign} {self.atom(self.expr(right, scope, depth - 1))}"
 
-    def number(self, kind, scope: list, depth: int) -> str:
+    def number(self, kind: Kind, scope: list, depth: int) -> str:
         """A number at a unit: a sum, a product of two units, a power, a negation, a field."""
         unit, choice = kind[1], self.rng.random()
         part = lambda other: self.atom(self.expr(("num", other), scope, depth - 1))
@@ -297,7 +298,7 @@ class Maker:
             return f"-{part(unit)}"
         return self.field(kind, scope, depth) or part(unit)
 
-    def field(self, kind, scope: list, depth: int) -> str | None:
+    def field(self, kind: Kind, scope: list, depth: int) -> str | None:
         """A field of the type, of a record in the scope."""
         for name, other in scope:
             if other != "bool" and other[0] == "rec":
@@ -307,21 +308,21 @@ class Maker:
                         return f"{name}.{part}"
         return None
 
-    def items(self, kind, scope: list, depth: int) -> str:
+    def items(self, kind: Kind, scope: list, depth: int) -> str:
         """A list."""
         if self.chance(0.4):
             return self.between(kind[1], "::", kind, scope, depth)
         count = self.rng.choice([1, 1, 2, 3])
         return "[" + "; ".join(self.expr(kind[1], scope, depth - 1) for _ in range(count)) + "]"
 
-    def value(self, kind, scope: list, depth: int) -> str:
+    def value(self, kind: Kind, scope: list, depth: int) -> str:
         """A record text."""
         variables, fields = self.program.records[kind[1]]
         units = dict(zip(variables, kind[2]))
         parts = [f"{name} = {self.expr(put(declared, units), scope, depth - 1)}" for name, declared in fields]
         return "{ " + "; ".join(parts) + " }"
 
-    def call(self, kind, scope: list, depth: int) -> str | None:
+    def call(self, kind: Kind, scope: list, depth: int) -> str | None:
         """A call of an earlier function whose intended result is the type at some units."""
         for function in self.rng.sample(self.program.functions, len(self.program.functions)):
             units = {"'u": self.unit(), "'v": self.unit()}

@@ -56,7 +56,7 @@ class Inside:
         self.kept: dict[tuple, tuple[int, bytes]] = {}
         signal.signal(signal.SIGPROF, self.late)
 
-    def late(self, *_) -> None:
+    def late(self, *_: object) -> None:
         """The time is up."""
         raise Slow
 
@@ -85,7 +85,7 @@ class Inside:
         return status, answer if isinstance(answer, bytes) else answer.encode()
 
 
-def runner(program: str, seconds: int):
+def runner(program: str, seconds: int) -> Inside | Shared | Command:
     """A shared library, or the reference (`answer.py` stands beside it), inside this process; otherwise a command."""
     path = Path(program)
     if (path.parent / "answer.py").exists():

@@ -3,6 +3,8 @@ from __future__ import annotations
 
 import random
 import re
+from collections.abc import Callable
+from typing import Any
 
 WORDS = "let rec in if then else match with type true false not num bool list Measure pown".split()
 SIGNS = "( ) [ ] { } [< < > = <= <> + - * / ^ ; : :: , . | || && ->".split()
@@ -87,7 +89,7 @@ def with_faults(rng: random.Random, text: str) -> str:
     return "\n".join(lines)
 
 
-def replaced_once(rng: random.Random, line: str, pattern: str, change) -> str:
+def replaced_once(rng: random.Random, line: str, pattern: str, change: Callable[[str], str]) -> str:
     """One of the places where the pattern stands, changed."""
     found = list(re.finditer(pattern, line))
     if not found:
@@ -143,7 +145,7 @@ class Sentences:
                 changed |= length < self.shortest[symbol]
                 self.shortest[symbol] = length
 
-    def length(self, rule) -> int:
+    def length(self, rule: Any) -> int:
         """The least number of tokens that a rule gives."""
         return sum(self.shortest.get(symbol, 1) for symbol in rule.symbols)
 

@@ -3,7 +3,7 @@ from __future__ import annotations
 
 import random
 
-from programs import Program, put
+from programs import Kind, Program, put
 from texts import mutated_tokens
 
 PLAIN = ["types", "fmt", "code", "prove", "explain", "annot", "tidy"]
@@ -28,7 +28,7 @@ class Words:
             parts = self.rng.choice(["q", "'u", "_", "m^2147483647 m", "m s", "(m)", "N", "1"])
         return f"<{parts}>" if parts else ""
 
-    def value(self, kind) -> str:
+    def value(self, kind: Kind) -> str:
         """A value of a type."""
         if kind == "bool":
             return self.rng.choice(["true", "false"])
@@ -76,7 +76,7 @@ class Words:
             text = mutated_tokens(self.rng, text).replace("\0", "")
         return [function.name, text]
 
-    def type(self, kind) -> str:
+    def type(self, kind: Kind) -> str:
         """The text of a type."""
         if kind == "bool":
             return "bool"
