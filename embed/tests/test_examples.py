@@ -6,7 +6,10 @@ import os
 import subprocess
 import threading
 import time
+from collections.abc import Iterator
 from contextlib import contextmanager
+from pathlib import Path
+from typing import Any
 
 import pytest
 
@@ -23,7 +26,7 @@ def has(module: str) -> bool:
 
 # ---- a table
 
-def test_the_script_on_a_table(tmp_path):
+def test_the_script_on_a_table(tmp_path: Path) -> None:
     if not has("pandas"):
         pytest.skip("Debian's python3-pandas isn't there")
     script = EXAMPLES / "trips.py"
@@ -38,7 +41,7 @@ def test_the_script_on_a_table(tmp_path):
 
 # ---- a program in C
 
-def test_the_program_in_c(installed, tmp_path):
+def test_the_program_in_c(installed: Path, tmp_path: Path) -> None:
     need("pkg-config")
     root = {**os.environ, "PKG_CONFIG_PATH": str(installed / "usr/local/lib/pkgconfig"),
             "PKG_CONFIG_SYSROOT_DIR": str(installed)}
@@ -60,7 +63,7 @@ def test_the_program_in_c(installed, tmp_path):
 # ---- a service
 
 @contextmanager
-def serving(*words: str):
+def serving(*words: str) -> Iterator[Any]:
     running = subprocess.Popen([DEBIAN, EXAMPLES / "service.py", "--port", "0", *words], env=ENVIRONMENT,
                                stdout=subprocess.PIPE, text=True)
     address = running.stdout.readline().strip().removeprefix("http://")
@@ -72,7 +75,7 @@ def serving(*words: str):
 
 
 @pytest.fixture(scope="module")
-def service():
+def service() -> Iterator[Any]:
     with serving("--seconds", "20") as asks:
         yield asks
 
@@ -87,7 +90,7 @@ def ask(address: str, path: str, body: object, headers: dict[str, str]) -> tuple
     return answer.status, tree
 
 
-def test_the_service_answers_calls(service):
+def test_the_service_answers_calls(service: Any) -> None:
     assert service("/types", {"text": "let k = 1"}) == (200, {"status": 0, "types": ["k : num"]})
     asked = {"text": VEHICLE, "function": "mean", "arguments": ["[1<m>; 2<m>]"]}
     assert service("/call", asked) == (200, {"status": 0, "text": "3r2<m>"})
@@ -99,7 +102,7 @@ def test_the_service_answers_calls(service):
     assert (status, tree["status"], tree["line"], tree["column"]) == (200, 7, 1, 9)
 
 
-def test_the_service_takes_images(service):
+def test_the_service_takes_images(service: Any) -> None:
     image = subprocess.run([PROGRAM, "image"], input=(HOME / "examples/mean.um").read_bytes(), capture_output=True)
     asked = {"image": base64.b64encode(image.stdout).decode(), "function": "mean", "arguments": ["[1; 2]"]}
     assert service("/call", asked) == (200, {"status": 0, "text": "3r2"})
@@ -117,13 +120,13 @@ def test_the_service_takes_images(service):
     ("/call", {"text": "let k = 1", "function": "k", "arguments": ["\0"]}, 400),
     ("/call", {"image": "?", "function": "k"}, 400), ("/call", {"image": "", "function": "--help"}, 400),
     ("/other", {"text": ""}, 404), pytest.param("/types", b"[" * 100000, 400, id="deep")])
-def test_the_service_refuses_other_requests(service, path, body, status):
+def test_the_service_refuses_other_requests(service: Any, path: str, body: Any, status: int) -> None:
     found, tree = service(path, body)
     assert (found, list(tree)) == (status, ["error"])
     assert service("/types", {"text": "let k = 1"})[0] == 200
 
 
-def test_the_service_refuses_long_requests(service):
+def test_the_service_refuses_long_requests(service: Any) -> None:
     assert service("/types", {"text": "/" * (1 << 22)})[0] == 413
     assert service("/types", {"text": "let k = 1"})[0] == 200
 
@@ -132,7 +135,7 @@ ENDLESS = "\n".join(["let f (x: num) =", *(f"  let x{n} = [{p}; {p}] in" for n, 
     ["x", *(f"x{n}" for n in range(39))])), "  x39"])
 
 
-def test_the_service_ends_a_run_at_its_limits():
+def test_the_service_ends_a_run_at_its_limits() -> None:
     found = []
     asked = {"text": ENDLESS, "function": "f", "arguments": ["1"]}
     began = time.monotonic()

@@ -42,12 +42,12 @@ def files(folder: Path) -> list[str]:
     return sorted(str(it.relative_to(folder)) for it in folder.rglob("*") if not it.is_dir() or it.is_symlink())
 
 
-def test_what_is_installed_answers_as_readme_says(installed):
+def test_what_is_installed_answers_as_readme_says(installed: Path) -> None:
     # The paths in `um` are those without DESTDIR.
     check_readme(installed / "usr/local", PYTHONPATH=str(installed / "usr/local/share/umc/python"))
 
 
-def test_all_parts_are_installed(installed):
+def test_all_parts_are_installed(installed: Path) -> None:
     there = files(installed / "usr/local")
     for name in ("bin/um", "bin/umc", "include/umc.h", "lib/libumc.a", "lib/libumc.so", "lib/libumc.so.1",
                  f"lib/libumc.so.{VERSION}", "lib/pkgconfig/umc.pc", "share/man/man1/um.1.gz",
@@ -62,14 +62,14 @@ def test_all_parts_are_installed(installed):
         done("zsh", "-n", installed / "usr/local/share/zsh/site-functions/_um")
 
 
-def test_the_links_of_an_installed_document_lead_somewhere(installed):
+def test_the_links_of_an_installed_document_lead_somewhere(installed: Path) -> None:
     documents = installed / "usr/local/share/doc/umc"
     for document in [documents / "README.md", *documents.glob("docs/*.md")]:
         for link in re.findall(r"\]\(([^)#:]+)(?:#[^)]*)?\)", document.read_text()):
             assert (document.parent / link).exists(), (document.name, link)
 
 
-def test_uninstall_removes_what_was_installed(libraries, tmp_path):
+def test_uninstall_removes_what_was_installed(libraries: Path, tmp_path: Path) -> None:
     words = ["make", "-s", f"DESTDIR={tmp_path}", "PREFIX=/opt/umc", f"PROGRAM={PROGRAM}", f"LIBRARIES={libraries}"]
     other = tmp_path / "opt/umc/lib/other"
     other.parent.mkdir(parents=True)
@@ -81,7 +81,7 @@ def test_uninstall_removes_what_was_installed(libraries, tmp_path):
     assert files(tmp_path) == ["opt/umc/lib/other"]
 
 
-def test_nothing_is_built_or_proved(tmp_path):
+def test_nothing_is_built_or_proved(tmp_path: Path) -> None:
     ran = subprocess.run(["make", "install", f"DESTDIR={tmp_path}", "PROGRAM=none"], cwd=HOME, capture_output=True,
                          text=True)
     assert ran.returncode == 2 and "./build proves and builds it" in ran.stderr
@@ -109,7 +109,7 @@ def plain(**more: str) -> dict[str, str]:
     return {**{name: it for name, it in os.environ.items() if name not in ours}, "PYTHONDONTWRITEBYTECODE": "1", **more}
 
 
-def test_the_debian_package(libraries, tmp_path):
+def test_the_debian_package(libraries: Path, tmp_path: Path) -> None:
     need("dpkg-deb", "strip")
     made = package("deb", libraries, tmp_path / "made")
     assert made.name == f"umc_{VERSION}_amd64.deb"
@@ -121,7 +121,7 @@ def test_the_debian_package(libraries, tmp_path):
     assert [line for line in said.stdout.splitlines() if line.startswith("E:")] == []
 
 
-def test_the_wheel(libraries, tmp_path):
+def test_the_wheel(libraries: Path, tmp_path: Path) -> None:
     need("strip")
     if subprocess.run([DEBIAN, "-m", "wheel", "version"], capture_output=True).returncode:
         pytest.skip("Debian's python3-wheel isn't there")
@@ -132,7 +132,7 @@ def test_the_wheel(libraries, tmp_path):
     assert shlex.split(said) == ["2000<m>", "Library"]
 
 
-def test_pip_installs_the_wheel(libraries, tmp_path):
+def test_pip_installs_the_wheel(libraries: Path, tmp_path: Path) -> None:
     """Into an environment of its own, without network, and away again."""
     need("strip")
     if subprocess.run([DEBIAN, "-c", "import ensurepip, wheel"], capture_output=True).returncode:

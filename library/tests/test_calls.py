@@ -3,6 +3,7 @@
 tools/library holds the program to the same answers. Lines whose answer is a refusal of the arguments' types say nothing
 of values, and are left to it. Of an overflow it is only asked here that something in the call is large.
 """
+from collections.abc import Callable
 from fractions import Fraction
 from math import floor, log2
 
@@ -44,7 +45,7 @@ def test_model_has_each_function() -> None:
         assert not any(is_helper(name, stem) for name in names)
 
 
-def test_derived_units_are_those_of_the_brochure(program) -> None:
+def test_derived_units_are_those_of_the_brochure(program: Callable[..., str]) -> None:
     text = (LIBRARY / "si.um").read_text() + "let one (x: num<_>) = x\n"
     assert len(DERIVED) == 22
     for name, unit in DERIVED.items():
@@ -52,7 +53,7 @@ def test_derived_units_are_those_of_the_brochure(program) -> None:
         assert program(text, "run", "1", "one", f"1<{name}>") == shown
 
 
-def test_constants_are_off_by_what_is_said(program) -> None:
+def test_constants_are_off_by_what_is_said(program: Callable[..., str]) -> None:
     text = joined(all_in_order([LIBRARY / "chemistry.um", LIBRARY / "num.um"]))
     pi = Fraction("3.14159265358979323846264338327950288")
     assert 0 < read(program(text, "run", "1", "pi")).value - pi < Fraction(3, 10**14)

@@ -96,6 +96,12 @@ class Run:
         return [json.loads(line) for line in self.out.splitlines()]
 
 
+# The fixtures that run `um`, write a file, and start a command.
+Um = Callable[..., Run]
+Write = Callable[..., Path]
+Start = Callable[..., subprocess.Popen[bytes]]
+
+
 def run(*words: str | Path, stdin: str | bytes = b"", cwd: Path = HOME, **environment: str) -> Run:
     """Runs `um` on these words."""
     done = subprocess.run([sys.executable, str(UM), *map(str, words)], cwd=cwd, capture_output=True, timeout=WAIT,

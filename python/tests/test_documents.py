@@ -4,6 +4,9 @@ import os
 import re
 import subprocess
 import sys
+from collections.abc import Iterator
+from pathlib import Path
+from typing import Any
 
 import pytest
 
@@ -15,7 +18,7 @@ FILES = [path for pattern in ("*.md", "docs/*.md", "examples/**/*.md", "python/*
          for path in sorted(HOME.glob(pattern))]
 
 
-def shown(path):
+def shown(path: Any) -> Iterator[Any]:
     """Each command in a block of a document, with the lines that follow it."""
     inside, found = False, None
     for number, line in enumerate(path.read_text().splitlines(), 1):
@@ -32,12 +35,12 @@ def shown(path):
 EVERY = [case for path in FILES for case in shown(path)]
 
 
-def test_documents_show_commands():
+def test_documents_show_commands() -> None:
     assert len(EVERY) >= 10
 
 
 @pytest.mark.parametrize("line, lines", EVERY)
-def test_a_document_is_true(line, lines, tmp_path):
+def test_a_document_is_true(line: Any, lines: Any, tmp_path: Path) -> None:
     for name in re.findall(r"\./um ([a-z]+)", line):
         need(COMMANDS[name].needs)
     is_refusal = bool(lines) and re.match(r"[^ ]+: error ", lines[0]) is not None
@@ -52,7 +55,7 @@ def test_a_document_is_true(line, lines, tmp_path):
 
 
 @pytest.mark.needs("show")
-def test_the_document_on_python_is_true(monkeypatch):
+def test_the_document_on_python_is_true(monkeypatch: pytest.MonkeyPatch) -> None:
     monkeypatch.chdir(HOME)
     monkeypatch.setenv("UMC_LIBRARY", "none")
     blocks = (HOME / "docs/EMBEDDING.md").read_text().split("```\n")[1::2]
@@ -62,7 +65,7 @@ def test_the_document_on_python_is_true(monkeypatch):
     assert doctest.DocTestRunner(verbose=False).run(found).failed == 0
 
 
-def test_a_script_that_names_its_interpreter_can_be_run():
+def test_a_script_that_names_its_interpreter_can_be_run() -> None:
     folders = ("examples", "tools", "bench", "embed", "page", "editors", "reference", "python")
     files = [path for folder in folders for path in (HOME / folder).rglob("*") if path.is_file()]
     scripts = [path for path in files if "out" not in path.parts and path.read_bytes()[:2] == b"#!"]

@@ -4,11 +4,13 @@ import pickle
 import threading
 from decimal import Decimal
 from fractions import Fraction
+from pathlib import Path
+from typing import Any
 
 import pytest
 
 import umc
-from conftest import HOME, PROGRAM, VEHICLE
+from conftest import HOME, PROGRAM, VEHICLE, Write
 from umc.embed import engines as engines_module
 from umc.embed import library
 
@@ -21,7 +23,7 @@ def quantity(text: str) -> tuple[Fraction, str]:
     return Fraction(number.replace("r", "/")), unit.removesuffix(">")
 
 
-def test_a_program_has_its_functions(vehicle):
+def test_a_program_has_its_functions(vehicle: Any) -> None:
     assert list(vehicle.types()) == ["total", "count", "mean", "kinetic", "metres", "move"]
     assert str(vehicle.types()["mean"]) == "mean : num<'a> list -> num<'a>"
     kinetic = vehicle.types()["kinetic"]
@@ -38,13 +40,13 @@ def test_a_program_has_its_functions(vehicle):
 
 
 @pytest.mark.parametrize("given", [10, Fraction(20, 2), Decimal("10.0"), "10", " 1e1 ", "20/2"])
-def test_numbers_are_exact_and_take_the_unit(vehicle, given):
+def test_numbers_are_exact_and_take_the_unit(vehicle: Any, given: Any) -> None:
     found = vehicle.metres(given, unit="ft")
     assert (found.magnitude, found.unit) == (Fraction(381, 125), "m")
     assert vehicle.metres((given, "ft")) == found
 
 
-def test_a_float_is_refused_unless_a_step_is_named(vehicle):
+def test_a_float_is_refused_unless_a_step_is_named(vehicle: Any) -> None:
     for given in (0.1, [1, 0.1], float("nan"), float("inf")):
         with pytest.raises(umc.ValueRefused):
             vehicle.mean(given, unit="m")
@@ -59,7 +61,7 @@ def test_a_float_is_refused_unless_a_step_is_named(vehicle):
             vehicle.metres(given, unit="ft", step=1)
 
 
-def test_lists_records_and_truth_values(vehicle, engine):
+def test_lists_records_and_truth_values(vehicle: Any, engine: Any) -> None:
     assert vehicle.mean([1, Decimal("2.5"), (4, "m"), "0.5"], unit="m").text == "2<m>"
     assert vehicle.mean(["1<m>", "2<m>"]).text == "3r2<m>"
     assert vehicle.mean(("1<m>", "2<m>")).text == "3r2<m>"
@@ -72,7 +74,7 @@ def test_lists_records_and_truth_values(vehicle, engine):
     assert vehicle.count([]).magnitude == 0
 
 
-def test_what_a_call_gives_may_be_handed_on(vehicle):
+def test_what_a_call_gives_may_be_handed_on(vehicle: Any) -> None:
     found = vehicle.kinetic((2, "kg"), vehicle.mean([(1, "m/s"), (2, "m/s")]))
     assert found.text == "9r4<kg m^2/s^2>"
     assert found.powers == {"kg": 1, "m": 2, "s": -2}
@@ -80,12 +82,12 @@ def test_what_a_call_gives_may_be_handed_on(vehicle):
 
 
 @pytest.mark.parametrize("given", [None, object(), b"1", {1: object()}, [1, None], [[object()]]])
-def test_other_values_are_refused(vehicle, given):
+def test_other_values_are_refused(vehicle: Any, given: Any) -> None:
     with pytest.raises(umc.ValueRefused):
         vehicle.metres(given)
 
 
-def test_units_are_one_for_all_or_one_each(vehicle):
+def test_units_are_one_for_all_or_one_each(vehicle: Any) -> None:
     assert vehicle.kinetic(2, 3, unit=["kg", "m/s"]).text == "9<kg m^2/s^2>"
     assert vehicle.kinetic((2, "kg"), 3, unit="m/s").text == "9<kg m^2/s^2>"
     with pytest.raises(umc.ValueRefused):
@@ -94,7 +96,7 @@ def test_units_are_one_for_all_or_one_each(vehicle):
         vehicle.mean("[1; 2]", unit="m")
 
 
-def test_quantities_in_other_units(vehicle, engine):
+def test_quantities_in_other_units(vehicle: Any, engine: Any) -> None:
     energy = vehicle.kinetic((2, "kg"), ("3.5", "m/s"))
     assert (energy.to("J").magnitude, energy.to("J").unit) == (Fraction(49, 4), "J")
     assert str(energy.to("J", digits=2)) == "12.25<J>"
@@ -118,13 +120,13 @@ def test_quantities_in_other_units(vehicle, engine):
         umc.Quantity(Fraction(1), "m").to("ft")
 
 
-def test_a_zero_may_have_an_open_unit(engine):
+def test_a_zero_may_have_an_open_unit(engine: Any) -> None:
     program = umc.Program("let none (x: num<_>) = 0<_>", engine=engine)
     found = program.none(1)
     assert (found.magnitude, found.unit, found.powers) == (0, "_", {})
 
 
-def test_a_library_stands_before(engine):
+def test_a_library_stands_before(engine: Any) -> None:
     program = umc.Program("let fall (t: num<s>) = 9.8<m/s^2> * t * t / 2", library=["si"], engine=engine)
     assert program.fall(3, unit="s").text == "441r10<m>"
     program = umc.Program("// with: si list\nlet area (x: num<m>) = x * x", engine=engine)
@@ -136,14 +138,16 @@ def test_a_library_stands_before(engine):
 
 
 @pytest.mark.parametrize("asked", ["/etc/passwd", "-", "./a.um", "a.um", "..", "si ../secret"])
-def test_a_text_names_no_file_but_the_librarys(engine, asked, tmp_path, monkeypatch):
+def test_a_text_names_no_file_but_the_librarys(
+    engine: Any, asked: str, tmp_path: Path, monkeypatch: pytest.MonkeyPatch
+) -> None:
     monkeypatch.chdir(tmp_path)
     (tmp_path / "a.um").write_text("let secret = 1\n")
     with pytest.raises(umc.Error, match="asks for a file that isn't one of the library"):
         umc.Program(f"// with: {asked}\nlet k = 1", engine=engine)
 
 
-def test_a_file_may_ask_for_a_file(engine, tmp_path, monkeypatch):
+def test_a_file_may_ask_for_a_file(engine: Any, tmp_path: Path, monkeypatch: pytest.MonkeyPatch) -> None:
     monkeypatch.chdir(tmp_path)
     (tmp_path / "a.um").write_text("let two = 2\n")
     (tmp_path / "b.um").write_text("// with: ./a.um\nlet four = two + two\n")
@@ -154,7 +158,7 @@ def test_a_file_may_ask_for_a_file(engine, tmp_path, monkeypatch):
 
 # ---- refusals
 
-def test_a_refused_text_has_status_place_and_function(engine):
+def test_a_refused_text_has_status_place_and_function(engine: Any) -> None:
     with pytest.raises(umc.Refused) as caught:
         umc.Program.read(HOME / "examples/refusals/units.um", engine=engine)
     refused = caught.value
@@ -169,13 +173,13 @@ def test_a_refused_text_has_status_place_and_function(engine):
     assert (again.status, again.place, str(again)) == (9, refused.place, str(refused))
 
 
-def test_a_place_is_told_in_the_text_after_the_library(engine):
+def test_a_place_is_told_in_the_text_after_the_library(engine: Any) -> None:
     with pytest.raises(umc.Refused) as caught:
         umc.Program("let k = 1\nlet wrong (x: num<m>) = x + 1<s>", library=["si"], engine=engine)
     assert str(caught.value.place) == "<text>:2:27"
 
 
-def test_a_refused_call_shows_the_argument_and_the_type(vehicle, engine):
+def test_a_refused_call_shows_the_argument_and_the_type(vehicle: Any, engine: Any) -> None:
     with pytest.raises(umc.Refused) as caught:
         vehicle.mean("[1<m>; 2<q>]")
     refused = caught.value
@@ -187,7 +191,7 @@ def test_a_refused_call_shows_the_argument_and_the_type(vehicle, engine):
     assert caught.value.message == "wrong number of arguments"
 
 
-def test_it_is_told_why_a_call_is_refused(vehicle, engine):
+def test_it_is_told_why_a_call_is_refused(vehicle: Any, engine: Any) -> None:
     if not engine.has("explain"):
         pytest.skip("this umc has no command 'explain'")
     cause = ("argument 1 of metres must have the type of its parameter", "  parameter: num<ft>", "  argument: num<m>",
@@ -200,7 +204,7 @@ def test_it_is_told_why_a_call_is_refused(vehicle, engine):
     assert (caught.value.row, caught.value.explanation) == (2, cause)
 
 
-def test_a_row_that_stopped_has_a_place(vehicle, engine):
+def test_a_row_that_stopped_has_a_place(vehicle: Any, engine: Any) -> None:
     if not engine.has("trace"):
         pytest.skip("this umc has no command 'trace'")
     with pytest.raises(umc.Refused) as caught:
@@ -208,13 +212,13 @@ def test_a_row_that_stopped_has_a_place(vehicle, engine):
     assert (caught.value.row, caught.value.place.line, caught.value.explanation[-1]) == (2, 17, "  right: 0")
 
 
-def test_a_run_on_a_long_argument_is_refused_as_on_a_short_one(vehicle):
+def test_a_run_on_a_long_argument_is_refused_as_on_a_short_one(vehicle: Any) -> None:
     with pytest.raises(umc.Refused) as caught:
         vehicle.total([9223372036854775807] * 10000)
     assert caught.value.status == 12 and caught.value.message.startswith("overflow")
 
 
-def test_a_refusal_is_told_also_if_its_cause_is_not_to_be_had(script):
+def test_a_refusal_is_told_also_if_its_cause_is_not_to_be_had(script: Write) -> None:
     stub = script(f'case "$1 $2" in "explain "|"trace 10000000") sleep 1000;; esac; exec "{PROGRAM}" "$@"')
     limited = umc.Program.read(VEHICLE, engine=umc.Process(stub, limits=umc.Limits(time=2)))
     with pytest.raises(umc.Refused) as caught:
@@ -225,13 +229,13 @@ def test_a_refusal_is_told_also_if_its_cause_is_not_to_be_had(script):
     assert (caught.value.status, caught.value.message) == (12, "division by zero")
 
 
-def test_an_error_of_a_file_names_it(engine):
+def test_an_error_of_a_file_names_it(engine: Any) -> None:
     with pytest.raises(umc.Error) as caught:
         umc.Program.read("nowhere.um", engine=engine)
     assert str(caught.value) == "nowhere.um: No such file or directory"
 
 
-def test_a_trap_and_the_end_of_a_budget(vehicle, engine):
+def test_a_trap_and_the_end_of_a_budget(vehicle: Any, engine: Any) -> None:
     with pytest.raises(umc.Refused) as caught:
         vehicle.mean([])
     assert (caught.value.status, caught.value.kind) == (12, "trap")
@@ -246,7 +250,7 @@ def test_a_trap_and_the_end_of_a_budget(vehicle, engine):
 
 # ---- many calls
 
-def test_each_makes_a_call_for_each_row(vehicle):
+def test_each_makes_a_call_for_each_row(vehicle: Any) -> None:
     found = vehicle.kinetic.each([1, 2, 3], ["1", Fraction(1, 2), 2], unit=["kg", "m/s"])
     assert [value.magnitude for value in found] == [Fraction(1, 2), Fraction(1, 4), 6]
     assert vehicle.metres.each([]) == []
@@ -261,7 +265,7 @@ def test_each_makes_a_call_for_each_row(vehicle):
         vehicle.kinetic.each([1, 2], [1], unit=["kg", "m/s"])
 
 
-def test_rows_may_hold_tabs_and_lines(vehicle):
+def test_rows_may_hold_tabs_and_lines(vehicle: Any) -> None:
     texts = ["[1<m>;\n2<m>]", "[1<m>;\t3<m>]", "[1<m>]\r\n", "[1<m>; // a comment\n4<m>]"]
     assert [value.text for value in vehicle.mean.each(texts)] == ["3r2<m>", "2<m>", "1<m>", "5r2<m>"]
     found = vehicle.mean.each([*texts, "[1<m>;\n2<q>]"], keep_going=True)[-1]
@@ -269,7 +273,7 @@ def test_rows_may_hold_tabs_and_lines(vehicle):
     assert [value.text for value in vehicle.metres.each((n for n in (0, -10)), unit="ft")] == ["0<m>", "-381r125<m>"]
 
 
-def test_rows_are_asked_by_threads_in_their_order(vehicle, monkeypatch):
+def test_rows_are_asked_by_threads_in_their_order(vehicle: Any, monkeypatch: pytest.MonkeyPatch) -> None:
     monkeypatch.setattr(engines_module, "CHUNK", 3)
     monkeypatch.setattr(vehicle.engine, "threads", 4)
     found = vehicle.metres.each(range(20), unit="ft")
@@ -280,13 +284,13 @@ def test_rows_are_asked_by_threads_in_their_order(vehicle, monkeypatch):
 
 
 @pytest.mark.parametrize("given", [3, -3, Fraction(1, 3), Decimal("2.5"), "7", "2.5e3", (4, "ft"), "5<ft>"])
-def test_one_call_is_as_a_row_of_each(vehicle, given):
+def test_one_call_is_as_a_row_of_each(vehicle: Any, given: Any) -> None:
     for unit in ("ft", ["ft"], ("ft",)):
         assert vehicle.metres(given, unit=unit) == vehicle.metres.each([given], unit=unit)[0]
 
 
 @pytest.mark.parametrize("unit", ["%", "%d", "0", "ft\0"])
-def test_a_unit_of_any_characters(vehicle, unit):
+def test_a_unit_of_any_characters(vehicle: Any, unit: str) -> None:
     with pytest.raises(umc.Error) as caught:
         vehicle.metres(1, unit=unit)
     with pytest.raises(type(caught.value)) as text:
@@ -294,7 +298,7 @@ def test_a_unit_of_any_characters(vehicle, unit):
     assert str(caught.value) == str(text.value)
 
 
-def test_a_long_value_comes_whole(engine):
+def test_a_long_value_comes_whole(engine: Any) -> None:
     """Longer than the room that the library is first handed."""
     long = ENDLESS.replace("  x39", "  x12")
     program = umc.Program(long, engine=engine)
@@ -303,14 +307,14 @@ def test_a_long_value_comes_whole(engine):
     assert program.f.printed(2) == found.replace("1", "2")
 
 
-def test_no_word_holds_the_character_0(vehicle):
+def test_no_word_holds_the_character_0(vehicle: Any) -> None:
     for given in ("1\0<ft>", "1<ft>\0", "\0"):
         with pytest.raises(umc.Error):
             vehicle.metres(given)
     assert vehicle.metres("1<ft>").text == "381r1250<m>"
 
 
-def test_words_of_any_characters(engine):
+def test_words_of_any_characters(engine: Any) -> None:
     program = umc.Program("let größe (x: num) = x", engine=engine)
     assert program.größe(1).magnitude == 1
     for given in ("π", "1<\U0001f600>", "\udcff", "\ud800"):
@@ -319,27 +323,27 @@ def test_words_of_any_characters(engine):
 
 
 @pytest.mark.parametrize("budget", [-1, 1 << 64, 1 << 80, 10_000_001])
-def test_a_budget_that_is_none(engine, budget):
+def test_a_budget_that_is_none(engine: Any, budget: int) -> None:
     program = umc.Program("let k (x: num) = x", engine=engine, budget=budget)
     with pytest.raises(umc.Refused) as caught:
         program.k(1)
     assert caught.value.kind == "usage"
 
 
-def test_functions_with_the_names_of_methods_are_items(engine):
+def test_functions_with_the_names_of_methods_are_items(engine: Any) -> None:
     program = umc.Program("let types (x: num) = x + 1\nlet budget (x: num) = x\nlet _text (x: num) = x", engine=engine)
     assert program["types"](1).magnitude == 2 and list(program.types()) == ["types", "budget", "_text"]
     assert program.budget == 10_000_000 and program["budget"](3).magnitude == 3 and program["_text"](4).magnitude == 4
 
 
-def test_a_question_that_is_refused_as_a_whole_has_no_row(engine):
+def test_a_question_that_is_refused_as_a_whole_has_no_row(engine: Any) -> None:
     program = umc.Program.read(VEHICLE, engine=engine, budget=20_000_000)
     with pytest.raises(umc.Refused) as caught:
         program.metres.each([(1, "ft"), (2, "ft")], keep_going=True)
     assert (caught.value.kind, caught.value.row) == ("usage", None)
 
 
-def test_a_value_is_what_the_constructor_makes(vehicle):
+def test_a_value_is_what_the_constructor_makes(vehicle: Any) -> None:
     found, made = vehicle.metres(10, unit="ft"), umc.Quantity(Fraction(381, 125), "m")
     assert found == made and hash(found) == hash(made) and repr(found) == repr(made)
     assert (found.rounded, found.digits) == (False, None)
@@ -348,7 +352,7 @@ def test_a_value_is_what_the_constructor_makes(vehicle):
         found.unit = "ft"
 
 
-def test_threads_may_share_a_program(vehicle):
+def test_threads_may_share_a_program(vehicle: Any) -> None:
     found: list[Fraction] = []
     threads = [threading.Thread(target=lambda n=n: found.append(vehicle.metres(n, unit="ft").magnitude))
                for n in range(8)]
@@ -365,7 +369,7 @@ ENDLESS = "\n".join(["let f (x: num) =", *(f"  let x{n} = [{p}; {p}] in" for n, 
     ["x", *(f"x{n}" for n in range(39))])), "  x39"])
 
 
-def test_a_run_is_held_within_limits():
+def test_a_run_is_held_within_limits() -> None:
     long = ENDLESS.replace("  x39", "  x14")
     for text, limits in ((ENDLESS, umc.Limits(memory=100 << 20)), (ENDLESS, umc.Limits(time=1.0, memory=1 << 30)),
                          (long, umc.Limits(output=50_000))):
@@ -377,14 +381,14 @@ def test_a_run_is_held_within_limits():
         umc.Program("let k = 1", limits=umc.Limits(time=1), engine=umc.Process(PROGRAM))
 
 
-def test_a_long_argument(engine):
+def test_a_long_argument(engine: Any) -> None:
     if isinstance(engine, umc.Process) and not engine.has("calls"):
         pytest.skip("this umc has no command 'calls'")
     program = umc.Program.read(VEHICLE, engine=engine)
     assert program.count([(1, "m")] * 50000).magnitude == 50000
 
 
-def test_a_missing_program_or_library_is_told(monkeypatch, tmp_path):
+def test_a_missing_program_or_library_is_told(monkeypatch: pytest.MonkeyPatch, tmp_path: Path) -> None:
     with pytest.raises(umc.Unavailable):
         umc.Program("let k = 1", engine=umc.Process(tmp_path / "none"))
     monkeypatch.setenv(library.VARIABLE, "none")

@@ -1,12 +1,13 @@
 """Programs in Python: quantities of pint, and columns of pandas."""
 from fractions import Fraction
+from typing import Any
 
 import pytest
 
 import umc
 
 
-def test_quantities_of_pint(vehicle):
+def test_quantities_of_pint(vehicle: Any) -> None:
     pint = pytest.importorskip("pint", reason="Debian's python3-pint isn't there")
     units = pint.UnitRegistry()
     found = vehicle.kinetic(2 * units.kg, Fraction(7, 2) * units.meter / units.second)
@@ -22,7 +23,7 @@ def test_quantities_of_pint(vehicle):
         vehicle.mean([units.Quantity(1, "m") ** 0.5])
 
 
-def test_columns_of_pandas(vehicle):
+def test_columns_of_pandas(vehicle: Any) -> None:
     pandas = pytest.importorskip("pandas", reason="Debian's python3-pandas isn't there")
     frame = pandas.DataFrame({"mass [kg]": [2, 3], "speed [m/s]": [1.5, 2.0], "n": ["1", "2.5"]})
     found = vehicle.kinetic.each(frame["mass [kg]"], frame["speed [m/s]"], step="0.5")

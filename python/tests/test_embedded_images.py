@@ -1,5 +1,6 @@
 """Programs in Python: images of programs."""
 from fractions import Fraction
+from typing import Any
 
 import pytest
 
@@ -7,7 +8,7 @@ import umc
 from conftest import HOME, PROGRAM
 
 
-def test_images(engine):
+def test_images(engine: Any) -> None:
     answer = umc.Process(PROGRAM).answer(["image"], (HOME / "examples/mean.um").read_bytes())
     image = umc.Image(answer.output, engine=engine)
     assert (image.call("mean", [1, 2]).magnitude, image.printed("mean", [1, 2])) == (Fraction(3, 2), "3r2")

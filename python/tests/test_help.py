@@ -6,10 +6,12 @@ import shutil
 import signal
 import subprocess
 import sys
+from pathlib import Path
+from typing import Any
 
 import pytest
 
-from conftest import HOME, PROGRAM, UM, need
+from conftest import HOME, PROGRAM, UM, Um, Write, need
 from waiting import WAIT
 
 from umc import manual
@@ -19,7 +21,7 @@ EXAMPLES = [(command, example) for command in COMMANDS.values() for example in c
 MAN = HOME / "python/man"
 
 
-def test_the_overview_names_each_command(um):
+def test_the_overview_names_each_command(um: Um) -> None:
     found = um("--help")
     assert (found.status, found.err) == (0, "")
     for command in COMMANDS.values():
@@ -34,7 +36,7 @@ esac
 exec "{PROGRAM}" "$@\""""
 
 
-def test_the_overview_says_which_commands_need_a_later_program(um, script):
+def test_the_overview_says_which_commands_need_a_later_program(um: Um, script: Write) -> None:
     lines = um("--help", UMC=str(script(OLDER))).out.splitlines()
     later = [line.split()[0] for line in lines if line.startswith("  ") and line.endswith(" (needs a later umc)")]
     assert later == [name for name, command in COMMANDS.items() if command.needs]
@@ -44,7 +46,7 @@ def test_the_overview_says_which_commands_need_a_later_program(um, script):
     assert um("--help", UMC="/nowhere/umc").out == whole.out
 
 
-def test_the_overview_builds_nothing(tmp_path):
+def test_the_overview_builds_nothing(tmp_path: Path) -> None:
     shutil.copytree(HOME / "python/umc", tmp_path / "python/umc", ignore=shutil.ignore_patterns("__pycache__"))
     shutil.copy(UM, tmp_path / "um")
     (tmp_path / "crates.txt").touch()
@@ -57,7 +59,7 @@ def test_the_overview_builds_nothing(tmp_path):
 
 
 @pytest.mark.parametrize("name", COMMANDS)
-def test_each_command_has_a_page_with_an_example(um, name):
+def test_each_command_has_a_page_with_an_example(um: Um, name: str) -> None:
     found = um(name, "--help")
     assert (found.status, found.err) == (0, "")
     assert COMMANDS[name].sentence() in found.out
@@ -68,7 +70,7 @@ def test_each_command_has_a_page_with_an_example(um, name):
 
 
 @pytest.mark.parametrize("command, example", EXAMPLES, ids=[example.line[:60] for _, example in EXAMPLES])
-def test_each_example_is_true(command, example, tmp_path):
+def test_each_example_is_true(command: Any, example: Any, tmp_path: Path) -> None:
     need(command.needs)
     own = tmp_path / "python3"
     own.symlink_to(sys.executable)
@@ -77,7 +79,7 @@ def test_each_example_is_true(command, example, tmp_path):
     assert (done.stdout, done.stderr) == (example.output, "")
 
 
-def test_the_version_stands_in_one_file(um):
+def test_the_version_stands_in_one_file(um: Um) -> None:
     assert um("--version").out == f"um {(HOME / 'VERSION').read_text().strip()}\nprogram: {PROGRAM}\n"
     assert um("--version", UMC="/nowhere/umc").out.splitlines()[1] == (
         "program: none (UMC=/nowhere/umc: there is no such program)")
@@ -101,7 +103,7 @@ def test_the_version_stands_in_one_file(um):
     (["watch", "a.um", "table", "f", "b.csv"], "um: 'table' is no command that can be watched\n"),
     (["conform", "a.um", "f", "num", "num"],
      "um: conform takes a function and its type in one word each, or one file of signatures\n")])
-def test_words_that_are_wrong_are_told(um, words, why):
+def test_words_that_are_wrong_are_told(um: Um, words: list[str], why: str) -> None:
     found = um(*words)
     assert (found.status, found.out) == (64, "")
     assert found.err == why
@@ -113,7 +115,7 @@ def test_words_that_are_wrong_are_told(um, words, why):
     (["show", "examples/area.um", "area", "1<m>", "2<m>"], "show"),
     (["table", "examples/area.um", "area", "/dev/null"], "calls"),
     (["calls", "examples/area.um", "/dev/null"], "calls")])
-def test_a_program_without_a_command_is_told(um, script, words, command):
+def test_a_program_without_a_command_is_told(um: Um, script: Write, words: list[str], command: str) -> None:
     older = script(OLDER)
     found = um(*words, UMC=str(older))
     assert (found.status, found.out, found.err) == (69, "", f"um: this umc has no command '{command}'\n")
@@ -123,11 +125,11 @@ def test_a_program_without_a_command_is_told(um, script, words, command):
 
 # ---- man pages
 
-def test_the_man_page_is_made_of_the_help():
+def test_the_man_page_is_made_of_the_help() -> None:
     assert (MAN / "um.1").read_text() == manual.page(), "python3 -m umc.manual > python/man/um.1 makes it"
 
 
-def test_the_man_page_of_the_program_has_its_version_and_commands():
+def test_the_man_page_of_the_program_has_its_version_and_commands() -> None:
     page = (MAN / "umc.1").read_text()
     assert f'"umc {(HOME / "VERSION").read_text().strip()}"' in page
     for command in ("types", "fmt", "code", "image", "prove", "rescale", "conform", "run", "eval", "steps", "twin",
@@ -137,7 +139,7 @@ def test_the_man_page_of_the_program_has_its_version_and_commands():
 
 @pytest.mark.parametrize("name", ["um.1", "umc.1"])
 @pytest.mark.skipif(not shutil.which("mandoc"), reason="Debian's mandoc isn't there")
-def test_a_man_page_is_well_formed(name):
+def test_a_man_page_is_well_formed(name: str) -> None:
     done = subprocess.run(["mandoc", "-T", "lint", "-W", "warning", MAN / name], capture_output=True, text=True)
     assert [line for line in done.stdout.splitlines() if "missing date" not in line] == []
 
@@ -145,14 +147,14 @@ def test_a_man_page_is_well_formed(name):
 # ---- completion
 
 @pytest.fixture
-def path(tmp_path):
+def path(tmp_path: Path) -> str:
     """A PATH with `um`, run by the Python of the tests."""
     (tmp_path / "um").write_text(f'#!/bin/sh\nexec "{sys.executable}" "{UM}" "$@"\n')
     (tmp_path / "um").chmod(0o755)
     return f"{tmp_path}:{os.environ['PATH']}"
 
 
-def completed(path, shell, text):
+def completed(path: str, shell: str, text: str) -> list[str]:
     done = subprocess.run([shell, "-c", text], cwd=HOME, capture_output=True, text=True,
                           env={**os.environ, "PATH": path})
     assert done.stderr == ""
@@ -166,28 +168,30 @@ echo "${{COMPREPLY[@]}}"
 """
 
 
-def in_bash(path, words):
+def in_bash(path: str, words: str) -> list[str]:
     return completed(path, "bash", BASH.format(words=words, at=len(words.split(" ")) - 1, point=len(words)))
 
 
-def test_commands_and_options_are_completed_in_bash(path):
+def test_commands_and_options_are_completed_in_bash(path: str) -> None:
     assert in_bash(path, "um ta") == ["table"]
     assert in_bash(path, "um tidy --ch") == ["--check"]
 
 
-def test_functions_are_completed_with_argcomplete(path):
+def test_functions_are_completed_with_argcomplete(path: str) -> None:
     pytest.importorskip("argcomplete")
     assert in_bash(path, "um run examples/vehicle.um m") == ["mean", "metres", "move"]
 
 
-def test_files_of_the_library_are_completed_with_argcomplete(path, tmp_path, monkeypatch):
+def test_files_of_the_library_are_completed_with_argcomplete(
+    path: str, tmp_path: Path, monkeypatch: pytest.MonkeyPatch
+) -> None:
     pytest.importorskip("argcomplete")
     (tmp_path / "measures.um").touch()
     monkeypatch.setenv("UM_PATH", str(tmp_path))
     assert in_bash(path, "um types --with meas") == ["measures"]
 
 
-def test_completion_without_argcomplete(path, tmp_path):
+def test_completion_without_argcomplete(path: str, tmp_path: Path) -> None:
     text = ("import sys; sys.modules['argcomplete'] = None\n"
             f"sys.path.insert(0, '{HOME}/python')\nfrom umc.cli import main\nmain(['completion', 'bash'])")
     script = subprocess.run([sys.executable, "-c", text], capture_output=True, text=True)
@@ -200,19 +204,19 @@ def test_completion_without_argcomplete(path, tmp_path):
 
 
 @pytest.mark.skipif(not shutil.which("fish"), reason="fish isn't there")
-def test_commands_are_completed_in_fish(path):
+def test_commands_are_completed_in_fish(path: str) -> None:
     assert "table" in completed(path, "fish", "um completion fish | source; complete -C 'um ta'")
 
 
 @pytest.mark.skipif(not shutil.which("zsh"), reason="zsh isn't there")
-def test_the_script_for_zsh_can_be_read(path):
+def test_the_script_for_zsh_can_be_read(path: str) -> None:
     text = 'autoload -U compinit; compinit -u -D; eval "$(um completion zsh)"; echo read'
     assert completed(path, "zsh", text) == ["read"]
 
 
 @pytest.mark.skipif(not shutil.which("zsh"), reason="zsh isn't there")
 @pytest.mark.parametrize("typed, wanted", [("um tabl", "usage: um table "), ("um tidy --ch", "usage: um tidy ")])
-def test_words_are_completed_in_zsh(path, typed, wanted):
+def test_words_are_completed_in_zsh(path: str, typed: str, wanted: str) -> None:
     """In a zsh on a terminal, as one types: a word up to the tab, and then that one wants help."""
     session, terminal = pty.fork()
     if session == 0:

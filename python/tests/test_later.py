@@ -4,10 +4,11 @@ import signal
 import subprocess
 import sys
 import threading
+from pathlib import Path
 
 import pytest
 
-from conftest import HOME, UM, answer
+from conftest import HOME, UM, Um, Write, answer
 from waiting import WAIT, wait_for
 
 UNTIDY = "let  k=2.50//half of it\n\n\n\nlet j=  1\n"
@@ -15,7 +16,7 @@ TIDY = "let k = 2.50 //half of it\n\nlet j = 1\n"
 
 
 @pytest.mark.needs("tidy")
-def test_a_file_is_laid_out_in_place(um, program, tmp_path):
+def test_a_file_is_laid_out_in_place(um: Um, program: Write, tmp_path: Path) -> None:
     file, other = program(UNTIDY), program(TIDY, "b.um")
     file.chmod(0o640)
     before = other.stat().st_mtime_ns
@@ -30,7 +31,7 @@ def test_a_file_is_laid_out_in_place(um, program, tmp_path):
 
 
 @pytest.mark.needs("tidy")
-def test_a_file_that_is_refused_stays_as_it_is(um, program):
+def test_a_file_that_is_refused_stays_as_it_is(um: Um, program: Write) -> None:
     wrong, file = program("let k = (", "wrong.um"), program(UNTIDY)
     found = um("tidy", "-w", wrong, file)
     assert (found.status, found.out) == (5, "")
@@ -39,7 +40,7 @@ def test_a_file_that_is_refused_stays_as_it_is(um, program):
 
 
 @pytest.mark.needs("tidy")
-def test_check_names_the_files_that_are_not_tidy(um, program):
+def test_check_names_the_files_that_are_not_tidy(um: Um, program: Write) -> None:
     file, other = program(UNTIDY), program(TIDY, "b.um")
     found = um("tidy", "--check", other, file)
     assert (found.status, found.out) == (1, "")
@@ -52,14 +53,14 @@ def test_check_names_the_files_that_are_not_tidy(um, program):
 
 
 @pytest.mark.needs("tidy")
-def test_a_folder_that_can_not_be_written_keeps_the_file(um, program, tmp_path):
+def test_a_folder_that_can_not_be_written_keeps_the_file(um: Um, program: Write, tmp_path: Path) -> None:
     found = um("tidy", "-w", "/proc/self/comm")
     assert found.status != 0
     assert um("tidy", "-", stdin=UNTIDY).out == TIDY
 
 
 @pytest.mark.needs("show")
-def test_units_and_digits_of_show(um):
+def test_units_and_digits_of_show(um: Um) -> None:
     text = (HOME / "examples/vehicle.um").read_bytes()
     words = ["kinetic", "2<kg>", "3.5<m/s>"]
     found = um("show", "examples/vehicle.um", *words, "--unit", "kJ=1000<J>", "--unit", "N m", "--digits", "4")
@@ -74,7 +75,7 @@ def test_units_and_digits_of_show(um):
 
 
 @pytest.mark.needs("trace")
-def test_a_trace_of_a_run_that_ends_well_is_its_value(um):
+def test_a_trace_of_a_run_that_ends_well_is_its_value(um: Um) -> None:
     found = um("trace", "examples/vehicle.um", "mean", "[1; 2; 6]")
     assert (found.status, found.out) == (0, "3\n")
     found = um("trace", "examples/vehicle.um", "mean", "[1; 2; 6]", "--budget", "3")
@@ -89,28 +90,28 @@ def test_a_trace_of_a_run_that_ends_well_is_its_value(um):
 class Watch:
     """A `um watch` that runs until the block ends."""
 
-    def __init__(self, *words):
+    def __init__(self, *words: str | Path) -> None:
         self.um = subprocess.Popen([sys.executable, UM, "watch", *map(str, words)], cwd=HOME, stdout=subprocess.PIPE,
                                    stderr=subprocess.STDOUT, text=True, env={**os.environ, "PYTHONUNBUFFERED": "1"})
-        self.lines = []
+        self.lines: list[str] = []
         threading.Thread(target=self.read, daemon=True).start()
 
-    def read(self):
+    def read(self) -> None:
         for line in self.um.stdout:
             self.lines.append(line.rstrip("\n"))
 
-    def wait(self, line):
+    def wait(self, line: str) -> None:
         wait_for(lambda: line in self.lines, line)
 
-    def __enter__(self):
+    def __enter__(self) -> "Watch":
         return self
 
-    def __exit__(self, *_):
+    def __exit__(self, *_: object) -> None:
         self.um.send_signal(signal.SIGINT)
         assert self.um.wait(timeout=WAIT) == -signal.SIGINT
 
 
-def test_watch_answers_again_when_the_file_changes(program):
+def test_watch_answers_again_when_the_file_changes(program: Write) -> None:
     file = program("let k = 1\n")
     with Watch(file) as watch:
         watch.wait("k : num")
@@ -124,7 +125,7 @@ def test_watch_answers_again_when_the_file_changes(program):
     assert watch.lines.count("k : num") == 1
 
 
-def test_watch_answers_a_call_and_looks_at_the_files_before(program):
+def test_watch_answers_a_call_and_looks_at_the_files_before(program: Write) -> None:
     below, file = program("let two = 2\n", "below.um"), program("let f (x: num) = two * x\n")
     with Watch(file, "run", "f", "-3", "--with", below, "--budget", "9") as watch:
         watch.wait("-6")

@@ -6,10 +6,11 @@ import subprocess
 import sys
 import time
 from pathlib import Path
+from typing import Any
 
 import pytest
 
-from conftest import HOME, PROGRAM, UM, answer
+from conftest import HOME, PROGRAM, UM, Start, Um, Write, answer
 from waiting import WAIT
 
 AREA = "area : num<m> -> num<m> -> num<m^2>\n"
@@ -17,13 +18,13 @@ AREA = "area : num<m> -> num<m> -> num<m^2>\n"
 
 # ---- which program runs
 
-def test_there_is_no_program_where_umc_names_none(um, tmp_path):
+def test_there_is_no_program_where_umc_names_none(um: Um, tmp_path: Path) -> None:
     found = um("types", "examples/area.um", UMC=str(tmp_path / "none"))
     assert (found.status, found.out) == (69, "")
     assert found.err == f"um: UMC={tmp_path}/none: there is no such program\n"
 
 
-def test_a_file_that_is_no_program_is_told(um, tmp_path):
+def test_a_file_that_is_no_program_is_told(um: Um, tmp_path: Path) -> None:
     file = tmp_path / "umc"
     file.write_bytes(b"\x00\x01")
     file.chmod(0o755)
@@ -39,7 +40,7 @@ def copied(folder: Path) -> Path:
     return folder / "um"
 
 
-def test_the_program_is_the_one_on_the_path(tmp_path):
+def test_the_program_is_the_one_on_the_path(tmp_path: Path) -> None:
     own = copied(tmp_path)
     (tmp_path / "bin").mkdir()
     (tmp_path / "bin/umc").symlink_to(PROGRAM)
@@ -55,7 +56,7 @@ def test_the_program_is_the_one_on_the_path(tmp_path):
     assert done.stderr == "um: there is no program umc on PATH; UMC=PROGRAM names one\n"
 
 
-def test_the_program_of_the_checkout_goes_before_the_path(tmp_path):
+def test_the_program_of_the_checkout_goes_before_the_path(tmp_path: Path) -> None:
     own = copied(tmp_path)
     (tmp_path / "crates.txt").touch()
     (tmp_path / "umc").write_text("#!/bin/sh\necho \"$@\" of the checkout\n")
@@ -67,7 +68,7 @@ def test_the_program_of_the_checkout_goes_before_the_path(tmp_path):
     assert (done.returncode, done.stdout, done.stderr) == (0, "types of the checkout\n", "")
 
 
-def test_the_launcher_runs_by_itself_from_any_folder(tmp_path):
+def test_the_launcher_runs_by_itself_from_any_folder(tmp_path: Path) -> None:
     link = tmp_path / "link"
     link.symlink_to(UM)
     for launcher in (UM, link):
@@ -76,11 +77,11 @@ def test_the_launcher_runs_by_itself_from_any_folder(tmp_path):
         assert (done.returncode, done.stdout, done.stderr) == (0, AREA, "")
 
 
-def test_a_file_without_a_name_is_told(um):
+def test_a_file_without_a_name_is_told(um: Um) -> None:
     assert (um("types", "").status, um("types", "").err) == (66, "um: '': No such file or directory\n")
 
 
-def test_a_launcher_without_its_modules_says_what_to_do(tmp_path):
+def test_a_launcher_without_its_modules_says_what_to_do(tmp_path: Path) -> None:
     shutil.copy(UM, tmp_path / "um")
     done = subprocess.run([sys.executable, tmp_path / "um", "types", HOME / "examples/area.um"], capture_output=True,
                           text=True, env={name: it for name, it in os.environ.items() if name != "PYTHONPATH"})
@@ -88,19 +89,19 @@ def test_a_launcher_without_its_modules_says_what_to_do(tmp_path):
     assert done.stderr.startswith("um: its modules aren't there: ") and done.stderr.count("\n") == 1
 
 
-def test_what_the_program_says_on_standard_error_is_passed_on(um, script):
+def test_what_the_program_says_on_standard_error_is_passed_on(um: Um, script: Write) -> None:
     found = um("types", "examples/area.um", UMC=str(script("cat > /dev/null; echo notice >&2; echo k : num")))
     assert (found.status, found.out, found.err) == (0, "k : num\n", "notice\n")
 
 
-def test_what_the_program_says_at_each_run_is_passed_on_once(um, script):
+def test_what_the_program_says_at_each_run_is_passed_on_once(um: Um, script: Write) -> None:
     stub = script(f'echo "not proved yet" >&2; echo "$1" >&2; printf "no end" >&2; exec "{PROGRAM}" "$@"')
     found = um("types", "examples/refusals/units.um", "examples/refusals/names.um", UMC=str(stub))
     assert found.err.count("not proved yet\n") == found.err.count("no end") == found.err.count("types\n") == 1
     assert found.err.count("explain\n") == 1
 
 
-def test_what_the_program_says_comes_at_once(start, script, tmp_path):
+def test_what_the_program_says_comes_at_once(start: Start, script: Write, tmp_path: Path) -> None:
     stub = script(f"echo progress >&2; while [ ! -e {tmp_path}/end ]; do sleep 0.05; done; cat > /dev/null")
     um = start([sys.executable, UM, "types", "examples/area.um"], stdout=subprocess.PIPE, stderr=subprocess.PIPE,
                env={**os.environ, "UMC": str(stub)})
@@ -109,14 +110,14 @@ def test_what_the_program_says_comes_at_once(start, script, tmp_path):
     assert um.wait(timeout=WAIT) == 0
 
 
-def test_an_unknown_status_is_handed_on_and_told(um, script):
+def test_an_unknown_status_is_handed_on_and_told(um: Um, script: Write) -> None:
     found = um("types", "examples/area.um", UMC=str(script("cat > /dev/null; exit 17")))
     assert (found.status, found.err) == (17, "examples/area.um: error 17: the program had too little memory\n")
     found = um("types", "examples/area.um", UMC=str(script("cat > /dev/null; exit 99")))
     assert (found.status, found.err) == (99, "um: the program ended with status 99\n")
 
 
-def test_a_program_that_does_not_read_its_text_is_answered(um, program, script):
+def test_a_program_that_does_not_read_its_text_is_answered(um: Um, program: Write, script: Write) -> None:
     file = program("// " + "x" * 1000000)
     found = um("types", file, UMC=str(script("echo 'error 1: usage'; exit 1")))
     assert found.status == 1
@@ -129,7 +130,7 @@ ENDLESS = "\n".join(["let f (x: num) =", *(f"  let x{n} = [{p}; {p}] in" for n, 
     ["x", *(f"x{n}" for n in range(39))])), "  x39"])
 
 
-def test_a_run_ends_at_the_limit_of_its_time(um, script):
+def test_a_run_ends_at_the_limit_of_its_time(um: Um, script: Write) -> None:
     began = time.monotonic()
     found = um("run", "examples/area.um", "area", "1", "2", "--limit-time", "0.5", UMC=str(script("exec sleep 1000")))
     assert (found.status, found.out) == (124, "")
@@ -137,14 +138,14 @@ def test_a_run_ends_at_the_limit_of_its_time(um, script):
     assert time.monotonic() - began < WAIT
 
 
-def test_a_value_without_end_ends_at_a_limit(um, program):
+def test_a_value_without_end_ends_at_a_limit(um: Um, program: Write) -> None:
     found = um("run", program(ENDLESS), "f", "1", "--limit-memory", "200M", "--limit-time", "20")
     assert (found.status, found.out) == (124, "")
     assert found.err in ("um: the run held more than 200 MiB of memory (--limit-memory)\n",
                          "um: the run took more than 20 s (--limit-time)\n")
 
 
-def test_a_run_ends_at_the_limit_of_its_answer(um, program):
+def test_a_run_ends_at_the_limit_of_its_answer(um: Um, program: Write) -> None:
     file = program(ENDLESS.replace("  x39", "  x14"))
     assert um("run", file, "f", "1", "--limit-output", "1M").status == 0
     found = um("run", file, "f", "1", "--limit-output", "50K", "--json")
@@ -171,7 +172,9 @@ exec {does}"""
     ("yes", "--limit-output", "1M", "the answer is longer than 1 MiB (--limit-output)"),
     (f"{sys.executable} -c 'x = bytes([1]) * (1 << 28); import time; time.sleep(1000)'", "--limit-memory", "128M",
      "the run held more than 128 MiB of memory (--limit-memory)")], ids=["time", "output", "memory"])
-def test_each_command_that_runs_has_its_limits(start, script, words, does, option, value, told):
+def test_each_command_that_runs_has_its_limits(
+    start: Start, script: Write, words: Any, does: str, option: str, value: str, told: str
+) -> None:
     stub = script(ENDLESSLY.format(program=PROGRAM, does=does))
     um = start([sys.executable, UM, *words, option, value], stdin=subprocess.PIPE, stdout=subprocess.PIPE,
                stderr=subprocess.PIPE, env={**os.environ, "UMC": str(stub)})
@@ -185,7 +188,7 @@ def test_each_command_that_runs_has_its_limits(start, script, words, does, optio
 
 @pytest.mark.parametrize("option, value", [("--limit-time", "soon"), ("--limit-time", "-1"), ("--limit-memory", "4T"),
                                            ("--limit-output", "")])
-def test_a_limit_that_is_none_is_refused(um, option, value):
+def test_a_limit_that_is_none_is_refused(um: Um, option: str, value: str) -> None:
     found = um("run", "examples/area.um", "area", "1", "2", option, value)
     assert (found.status, found.out) == (64, "")
     assert "um: argument --limit-" in found.err or "expected one argument" in found.err
@@ -193,7 +196,7 @@ def test_a_limit_that_is_none_is_refused(um, option, value):
 
 # ---- output that can't be written
 
-def test_it_ends_quietly_when_its_output_is_closed(program):
+def test_it_ends_quietly_when_its_output_is_closed(program: Write) -> None:
     file = program("".join(f"let f{n} (x: num<_>) = x\n" for n in range(2000)))
     um = subprocess.Popen([sys.executable, UM, "types", *[file] * 8], cwd=HOME, stdout=subprocess.PIPE,
                           stderr=subprocess.PIPE)
@@ -206,14 +209,14 @@ def test_it_ends_quietly_when_its_output_is_closed(program):
 
 @pytest.mark.parametrize("words", [["types", "examples/area.um"], ["--help"], ["run", "--help"], ["--version"],
                                    ["types", "--json", "examples/refusals/units.um"]])
-def test_a_full_disk_is_told(words):
+def test_a_full_disk_is_told(words: list[str]) -> None:
     with open("/dev/full", "wb") as full:
         done = subprocess.run([sys.executable, UM, *words], cwd=HOME, stdout=full, stderr=subprocess.PIPE, text=True)
     assert (done.returncode, done.stderr) == (16, "um: standard output: No space left on device\n")
 
 
-def test_closed_streams_are_no_crash():
-    def closed(redirection, *words):
+def test_closed_streams_are_no_crash() -> None:
+    def closed(redirection: str, *words: str) -> subprocess.CompletedProcess[str]:
         return subprocess.run(["sh", "-c", f'exec "$0" "$@" {redirection}', sys.executable, UM, *words], cwd=HOME,
                               capture_output=True, text=True)
     done = closed(">&-", "types", "examples/area.um")
@@ -227,7 +230,7 @@ def test_closed_streams_are_no_crash():
     assert (done.returncode, done.stdout, done.stderr) == (0, AREA, "")
 
 
-def test_an_output_file_that_can_not_be_written_is_told(um, tmp_path):
+def test_an_output_file_that_can_not_be_written_is_told(um: Um, tmp_path: Path) -> None:
     found = um("types", "examples/area.um", "-o", tmp_path / "none/types")
     assert (found.status, found.err) == (73, f"um: {tmp_path}/none/types: No such file or directory\n")
     found = um("types", "examples/area.um", "-o", "/dev/full")
@@ -242,7 +245,7 @@ def test_an_output_file_that_can_not_be_written_is_told(um, tmp_path):
 @pytest.mark.parametrize("name, why", [
     ("none.um", "No such file or directory"), (".", "Is a directory"), ("/proc/self/mem", "Input/output error"),
     ("a" * 300, "File name too long")])
-def test_a_file_that_can_not_be_read_is_told(um, name, why):
+def test_a_file_that_can_not_be_read_is_told(um: Um, name: str, why: str) -> None:
     found = um("types", name)
     assert (found.status, found.out, found.err) == (66, "", f"um: {name}: {why}\n")
 
@@ -251,21 +254,21 @@ def test_a_file_that_can_not_be_read_is_told(um, name, why):
     ["run", "examples", "f"], ["exec", "examples", "f"], ["run", "examples/area.um", "area", "@examples"],
     ["conform", "examples/area.um", "examples"], ["types", "examples/area.um", "--with", "./examples"],
     ["image", "examples", "-o", "/dev/null"]])
-def test_a_folder_is_told_wherever_a_file_is_named(um, words):
+def test_a_folder_is_told_wherever_a_file_is_named(um: Um, words: list[str]) -> None:
     found = um(*words)
     assert (found.status, found.out) == (66, "")
     assert found.err in ("um: examples: Is a directory\n", "um: ./examples: Is a directory\n")
 
 
 @pytest.mark.skipif(os.geteuid() == 0, reason="root reads every file")
-def test_a_file_without_rights_is_told(um, program):
+def test_a_file_without_rights_is_told(um: Um, program: Write) -> None:
     file = program("let k = 1")
     file.chmod(0)
     found = um("types", file)
     assert (found.status, found.err) == (66, f"um: {file}: Permission denied\n")
 
 
-def test_a_files_name_may_be_any_bytes(um, tmp_path):
+def test_a_files_name_may_be_any_bytes(um: Um, tmp_path: Path) -> None:
     name = os.fsdecode(os.fsencode(tmp_path) + b"/a \xff\n.um")
     Path(name).write_text("let k = x")
     found = um("types", name)
@@ -275,7 +278,7 @@ def test_a_files_name_may_be_any_bytes(um, tmp_path):
     assert object_["file"] == name
 
 
-def test_a_pipe_is_a_file(um, tmp_path):
+def test_a_pipe_is_a_file(um: Um, tmp_path: Path) -> None:
     done = subprocess.run(["bash", "-c", f"'{sys.executable}' '{UM}' types <(cat examples/area.um)"], cwd=HOME,
                           capture_output=True, text=True)
     assert (done.returncode, done.stdout, done.stderr) == (0, AREA, "")
@@ -287,7 +290,7 @@ LONG = f"[{'1<m>; ' * 25000}2<m>]"
 
 
 @pytest.mark.needs("calls")
-def test_an_argument_of_any_length_is_taken(um, tmp_path):
+def test_an_argument_of_any_length_is_taken(um: Um, tmp_path: Path) -> None:
     (tmp_path / "list").write_text(LONG)
     found = um("run", "examples/vehicle.um", "count", f"@{tmp_path}/list")
     assert (found.status, found.out) == (0, "25001\n")
@@ -297,7 +300,7 @@ def test_an_argument_of_any_length_is_taken(um, tmp_path):
     assert found.err.startswith(f"{tmp_path}/list:1:150004: error 11: argument 1, name\n")
 
 
-def test_a_long_argument_where_nothing_takes_it_is_told(um, tmp_path):
+def test_a_long_argument_where_nothing_takes_it_is_told(um: Um, tmp_path: Path) -> None:
     from conftest import lacks
     (tmp_path / "list").write_text(LONG)
     found = um("eval", "examples/vehicle.um", "count", f"@{tmp_path}/list")
@@ -310,7 +313,7 @@ def test_a_long_argument_where_nothing_takes_it_is_told(um, tmp_path):
 
 
 @pytest.mark.needs("calls")
-def test_an_argument_that_no_command_takes_is_told(um, tmp_path):
+def test_an_argument_that_no_command_takes_is_told(um: Um, tmp_path: Path) -> None:
     told = "an argument has at most 1,048,576 bytes, and this one has 1,048,577\n"
     (tmp_path / "list").write_text("1" * 1048577)
     found = um("run", "examples/vehicle.um", "count", f"@{tmp_path}/list")
@@ -323,14 +326,14 @@ def test_an_argument_that_no_command_takes_is_told(um, tmp_path):
     assert found.err.splitlines()[1].startswith("an argument has at most 1,048,576 bytes, ")
 
 
-def test_an_argument_that_is_no_text_is_told(um, tmp_path):
+def test_an_argument_that_is_no_text_is_told(um: Um, tmp_path: Path) -> None:
     (tmp_path / "list").write_bytes(b"[1; \xff]")
     found = um("run", "examples/vehicle.um", "count", f"@{tmp_path}/list")
     assert (found.status, found.err) == (1, "examples/vehicle.um: error 1: usage\nan argument isn't UTF-8\n")
 
 
 @pytest.mark.needs("calls")
-def test_an_argument_that_goes_by_calls_is_answered_as_by_run(um, tmp_path, program):
+def test_an_argument_that_goes_by_calls_is_answered_as_by_run(um: Um, tmp_path: Path, program: Write) -> None:
     # The text has a line that calls would take for its end, and no line feed at its end.
     text = "let k (x: num list) (y: num) =\n  y - 5\n---\n1 // last"
     assert answer(["run", "9", "k", "[]", "7"], text) == (0, "1\n")
@@ -343,7 +346,7 @@ def test_an_argument_that_goes_by_calls_is_answered_as_by_run(um, tmp_path, prog
 
 
 @pytest.mark.needs("calls")
-def test_an_argument_may_hold_the_character_0(um, tmp_path):
+def test_an_argument_may_hold_the_character_0(um: Um, tmp_path: Path) -> None:
     (tmp_path / "zero").write_bytes(b"[1;\x002]")
     found = um("run", "examples/vehicle.um", "mean", f"@{tmp_path}/zero")
     assert (found.status, found.err.splitlines()[0]) == (11, f"{tmp_path}/zero:1:4: error 11: argument 1, text")

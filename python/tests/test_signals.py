@@ -9,14 +9,14 @@ from pathlib import Path
 
 import pytest
 
-from conftest import HOME, UM
+from conftest import HOME, UM, Start, Um, Write
 from waiting import WAIT, wait_for
 
 
 @pytest.mark.parametrize("number", [signal.SIGINT, signal.SIGTERM, signal.SIGHUP, signal.SIGQUIT])
 @pytest.mark.parametrize("text", ["echo $$ > {0}/pid; exec sleep 1000", "sleep 1000 & echo $! > {0}/pid; wait",
                                   "trap '' TERM; echo $$ > {0}/pid; while :; do sleep 1; done"])
-def test_a_signal_ends_both(start, script, tmp_path, number, text):
+def test_a_signal_ends_both(start: Start, script: Write, tmp_path: Path, number: int, text: str) -> None:
     stub = script(text.format(tmp_path))
     um = start([sys.executable, UM, "run", "examples/area.um", "area", "1", "2"], stdout=subprocess.PIPE,
                stderr=subprocess.PIPE, env={**os.environ, "UMC": str(stub)})
@@ -28,7 +28,9 @@ def test_a_signal_ends_both(start, script, tmp_path, number, text):
 
 
 @pytest.mark.parametrize("number", [signal.SIGINT, signal.SIGQUIT, signal.SIGHUP])
-def test_a_signal_that_the_starter_ignores_ends_nothing(start, script, tmp_path, number):
+def test_a_signal_that_the_starter_ignores_ends_nothing(
+    start: Start, script: Write, tmp_path: Path, number: int
+) -> None:
     stub = script(f"echo $$ > {tmp_path}/pid; while [ ! -e {tmp_path}/end ]; do sleep 0.05; done; cat > /dev/null")
     um = start(["sh", "-c", f'trap "" {int(number)}; exec "$0" "$@"', sys.executable, UM, "types", "examples/area.um"],
                stdout=subprocess.PIPE, env={**os.environ, "UMC": str(stub)})
@@ -40,7 +42,7 @@ def test_a_signal_that_the_starter_ignores_ends_nothing(start, script, tmp_path,
     assert um.wait(timeout=WAIT) == 0
 
 
-def test_ctrl_c_on_a_terminal_ends_both(script, tmp_path):
+def test_ctrl_c_on_a_terminal_ends_both(script: Write, tmp_path: Path) -> None:
     stub = script(f"echo $$ > {tmp_path}/pid; exec sleep 1000")
     session, terminal = pty.fork()
     if session == 0:
@@ -63,7 +65,7 @@ def state(process: int) -> str:
         return ""
 
 
-def test_ctrl_z_stops_both(start, script, tmp_path):
+def test_ctrl_z_stops_both(start: Start, script: Write, tmp_path: Path) -> None:
     stub = script(f"echo $$ > {tmp_path}/pid; while [ ! -e {tmp_path}/end ]; do :; done; cat > /dev/null")
     um = start([sys.executable, UM, "types", "examples/area.um"], stdout=subprocess.PIPE,
                env={**os.environ, "UMC": str(stub)}, process_group=0)
@@ -78,7 +80,7 @@ def test_ctrl_z_stops_both(start, script, tmp_path):
 
 # How long a thread that starts a program is kept from going on: in the second it has only begun when the signal comes.
 @pytest.mark.parametrize("seconds", [0, 1])
-def test_a_signal_ends_what_other_threads_ask(start, script, tmp_path, seconds):
+def test_a_signal_ends_what_other_threads_ask(start: Start, script: Write, tmp_path: Path, seconds: int) -> None:
     stub = script(f"echo $$ > {tmp_path}/pid; exec sleep 1000")
     text = ("import subprocess, sys, threading, time\nfrom pathlib import Path\n"
             f"sys.path.insert(0, '{HOME}/python')\nfrom umc import cli, signals\nfrom umc.program import Program\n"
@@ -100,7 +102,7 @@ def test_a_signal_ends_what_other_threads_ask(start, script, tmp_path, seconds):
     wait_for_end(process)
 
 
-def test_a_program_that_is_ended_by_a_signal_is_told(um, script):
+def test_a_program_that_is_ended_by_a_signal_is_told(um: Um, script: Write) -> None:
     stub = script("cat > /dev/null; kill -SEGV $$")
     found = um("types", "examples/area.um", UMC=str(stub))
     assert (found.status, found.out, found.err) == (139, "", f"um: {stub} was ended by SIGSEGV\n")
@@ -132,10 +134,11 @@ AFTER = {"the end": "return 0", "the next program": "Program(Path('/bin/true')).
 
 @pytest.mark.parametrize("lost", LOST.values(), ids=LOST)
 @pytest.mark.parametrize("after", AFTER.values(), ids=AFTER)
-def test_no_signal_is_lost(start, lost, after):
+def test_no_signal_is_lost(start: Start, lost: str, after: str) -> None:
     text = f"""import os, signal, sys
 from contextlib import suppress
 from pathlib import Path
+from typing import Any
 sys.path.insert(0, '{HOME}/python')
 from umc import cli, options, signals, watch
 from umc.commands import COMMANDS

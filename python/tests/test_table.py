@@ -8,10 +8,12 @@ import signal
 import subprocess
 import sys
 from fractions import Fraction
+from pathlib import Path
+from typing import Any
 
 import pytest
 
-from conftest import HOME, UM, answer
+from conftest import HOME, UM, Um, Write, answer
 from waiting import WAIT, wait_for
 
 pytestmark = pytest.mark.needs("calls")
@@ -19,17 +21,17 @@ VEHICLE = "examples/vehicle.um"
 MOTION = "mass [kg],speed [m/s]\n2,3\n1.5,2\n"
 
 
-def rows(output):
+def rows(output: str) -> list[list[str]]:
     return list(csv.reader(io.StringIO(output)))
 
 
-def test_each_row_is_a_call(um):
+def test_each_row_is_a_call(um: Um) -> None:
     found = um("table", VEHICLE, "kinetic", "-", stdin=MOTION)
     assert (found.status, found.err) == (0, "")
     assert found.out == "mass [kg],speed [m/s],kinetic [kg m^2/s^2]\n2,3,9\n1.5,2,3\n"
 
 
-def test_each_result_is_that_of_run(um, tmp_path):
+def test_each_result_is_that_of_run(um: Um, tmp_path: Path) -> None:
     data = tmp_path / "data.csv"
     data.write_text("d [ft]\n" + "".join(f"{n / 8}\n" for n in range(-40, 40)))
     found = rows(um("table", VEHICLE, "metres", data, "--chunk", "7").out)
@@ -43,13 +45,13 @@ def test_each_result_is_that_of_run(um, tmp_path):
 
 
 @pytest.mark.parametrize("rows_of_a_chunk", ["1", "2", "3", "100"])
-def test_chunks_change_nothing(um, rows_of_a_chunk):
+def test_chunks_change_nothing(um: Um, rows_of_a_chunk: str) -> None:
     data = "a,b\n" + "".join(f"{n},{n + 1}\n" for n in range(8))
     found = um("table", "examples/mechanics.um", "ratio", "-", "--chunk", rows_of_a_chunk, stdin=data)
     assert [row[2] for row in rows(found.out)] == ["ratio", "0", "0.5", "2/3", "0.75", "0.8", "5/6", "6/7", "0.875"]
 
 
-def test_columns_are_chosen_by_their_names(um):
+def test_columns_are_chosen_by_their_names(um: Um) -> None:
     data = "id,speed [m/s],note,mass [kg]\na,3,\"x, y\",2\nb,2,,1.5\n"
     found = um("table", VEHICLE, "kinetic", "-", "--columns", "mass,speed", stdin=data)
     assert rows(found.out) == [["id", "speed [m/s]", "note", "mass [kg]", "kinetic [kg m^2/s^2]"],
@@ -58,7 +60,7 @@ def test_columns_are_chosen_by_their_names(um):
     assert found.out == "kinetic [kg m^2/s^2]\n9\n3\n"
 
 
-def test_units_may_stand_beside_the_data(um):
+def test_units_may_stand_beside_the_data(um: Um) -> None:
     data = "mass,speed\n2,3\n"
     assert um("table", VEHICLE, "kinetic", "-", "--units", "kg,m/s", stdin=data).out.endswith("\n2,3,9\n")
     data = "mass [g],speed [m/s]\n2,3\n"
@@ -68,7 +70,7 @@ def test_units_may_stand_beside_the_data(um):
     assert found.err == "um: <stdin>:1: --units has 1 unit for 2 columns\n"
 
 
-def test_the_fields_of_a_record_are_columns(um):
+def test_the_fields_of_a_record_are_columns(um: Um) -> None:
     data = "body,t [s]\n{ pos = 1<m>; vel = 2<m/s> },3\n{ pos = 0.5<m>; vel = 0<m/s> },1\n"
     found = um("table", VEHICLE, "move", "-", stdin=data)
     assert rows(found.out) == [["body", "t [s]", "move.pos [m]", "move.vel [m/s]"],
@@ -76,14 +78,14 @@ def test_the_fields_of_a_record_are_columns(um):
                                ["{ pos = 0.5<m>; vel = 0<m/s> }", "1", "0.5", "0"]]
 
 
-def test_truth_values_lists_and_results_without_a_unit(um, program):
+def test_truth_values_lists_and_results_without_a_unit(um: Um, program: Write) -> None:
     file = program("type P = { a: num list; b: bool }\nlet f (x: bool) (l: num list) = { a = l; b = not x }")
     data = "x,l\ntrue,[1; 2.5]\nFALSE, [] \n"
     assert rows(um("table", file, "f", "-", stdin=data).out) == [
         ["x", "l", "f.a", "f.b"], ["true", "[1; 2.5]", "[1; 5r2]", "false"], ["FALSE", " [] ", "[]", "true"]]
 
 
-def test_a_result_is_exact_unless_it_is_rounded(um, program):
+def test_a_result_is_exact_unless_it_is_rounded(um: Um, program: Write) -> None:
     file = program("let third (x: num) = x / 3")
     data = "x\n1\n3\n0.5\n-1.5\n0.375\n"
     assert [row[1] for row in rows(um("table", file, "third", "-", stdin=data).out)[1:]] == [
@@ -96,7 +98,7 @@ def test_a_result_is_exact_unless_it_is_rounded(um, program):
 
 @pytest.mark.parametrize("cell, why", [("", "the cell is empty"), ("  ", "the cell is empty"),
                                        ("two", "'two' isn't a number"), ("1,5", "'1,5' isn't a number")])
-def test_a_cell_is_refused_with_its_row_and_column(um, cell, why):
+def test_a_cell_is_refused_with_its_row_and_column(um: Um, cell: str, why: str) -> None:
     data = f'mass [kg],speed [m/s]\n2,3\n"{cell}",1\n1,2\n'
     found = um("table", VEHICLE, "kinetic", "-", stdin=data)
     assert found.status == 65
@@ -109,7 +111,7 @@ def test_a_cell_is_refused_with_its_row_and_column(um, cell, why):
 
 @pytest.mark.needs("trace")
 @pytest.mark.needs("explain")
-def test_a_refused_call_is_told_with_its_row(um, program):
+def test_a_refused_call_is_told_with_its_row(um: Um, program: Write) -> None:
     file = program("[<Measure>] type m\nlet inverse (x: num<m>) = 1 / x")
     data = "x [m]\n1\n0\n2\n9223372036854775808\n4\n"
     found = um("table", file, "inverse", "-", stdin=data)
@@ -125,7 +127,7 @@ def test_a_refused_call_is_told_with_its_row(um, program):
 
 
 @pytest.mark.needs("explain")
-def test_it_is_told_once_why_rows_are_refused(um):
+def test_it_is_told_once_why_rows_are_refused(um: Um) -> None:
     data = "mass [kg],speed [m/s^2]\n2,3\n1,2\n"
     found = um("table", VEHICLE, "kinetic", "-", "--keep-going", stdin=data)
     assert (found.status, found.err.splitlines()) == (11, [
@@ -139,14 +141,14 @@ def test_it_is_told_once_why_rows_are_refused(um):
 
 
 @pytest.mark.needs("explain")
-def test_a_unit_that_is_not_there_is_told(um):
+def test_a_unit_that_is_not_there_is_told(um: Um) -> None:
     found = um("table", VEHICLE, "kinetic", "-", stdin="mass [lb],speed [m/s]\n2,3\n")
     assert (found.status, found.out) == (11, "mass [lb],speed [m/s],kinetic [kg m^2/s^2]\n")
     assert found.err.splitlines() == ["<stdin>:2: error 11: argument 1, name at 3", "row 1, column 'mass [lb]'",
                                       "  | 2<lb>", "  |   ^", "unknown name"]
 
 
-def test_a_table_without_rows_has_the_unit_of_its_results(um, program):
+def test_a_table_without_rows_has_the_unit_of_its_results(um: Um, program: Write) -> None:
     assert um("table", VEHICLE, "kinetic", "-", stdin="m [kg],v [m/s]\n").out == "m [kg],v [m/s],kinetic [kg m^2/s^2]\n"
     file = program("[<Measure>] type m\nlet twice (x: num<_>) = x + x\nlet both (x: num<m>) = [x; x]\n"
                    "let is_long (x: num<m>) = x > 1<m>\nlet ends (l: num<m> list) = l\nlet k (x: num) = x")
@@ -159,7 +161,7 @@ def test_a_table_without_rows_has_the_unit_of_its_results(um, program):
     ("", "the first line must have the names of the columns"), ("\n1\n", "the first line must have the names"),
     ("a\n1\n", "kinetic takes 2 arguments, and there is 1 column"),
     ("a,b,c\n1,2,3\n", "kinetic takes 2 arguments, and there are 3 columns")])
-def test_a_table_that_does_not_fit_is_refused(um, data, why):
+def test_a_table_that_does_not_fit_is_refused(um: Um, data: str, why: str) -> None:
     found = um("table", VEHICLE, "kinetic", "-", stdin=data)
     assert (found.status, found.out) == (65, "")
     assert found.err.startswith(f"um: <stdin>:1: {why}")
@@ -171,7 +173,7 @@ def test_a_table_that_does_not_fit_is_refused(um, data, why):
     ("mass [kg];speed [m/s]\n2;3\n", ["--columns", "mass,speed"], "between the cells, say --delimiter ';'\n"),
     ("mass [kg],speed [m/s]\n2,3\n", ["--delimiter", ";"], "; --columns names those to take\n"),
     ("a;b,c;d,e\n2,3,4\n", [], "; --columns names those to take\n")])
-def test_another_sign_between_cells_is_told(um, data, more, hint):
+def test_another_sign_between_cells_is_told(um: Um, data: str, more: list[Any], hint: str) -> None:
     found = um("table", VEHICLE, "kinetic", "-", *more, stdin=data)
     assert (found.status, found.out) == (65, "")
     assert found.err.endswith(hint)
@@ -179,13 +181,13 @@ def test_another_sign_between_cells_is_told(um, data, more, hint):
 
 @pytest.mark.parametrize("names, why", [("mass,weight", "no column has the name 'weight'"),
                                         ("mass,a", "several columns have the name 'a'")])
-def test_a_column_that_is_not_there_is_refused(um, names, why):
+def test_a_column_that_is_not_there_is_refused(um: Um, names: str, why: str) -> None:
     found = um("table", VEHICLE, "kinetic", "-", "--columns", names, stdin="mass [kg],a [m],a [s]\n1,2,3\n")
     assert (found.status, found.out) == (65, "")
     assert why in found.err
 
 
-def test_a_row_of_another_length_is_refused(um):
+def test_a_row_of_another_length_is_refused(um: Um) -> None:
     data = "mass [kg],speed [m/s]\n2,3\n1\n\n1,2,3\n4,1\n"
     found = um("table", VEHICLE, "kinetic", "-", "--keep-going", stdin=data)
     assert (found.status, found.out) == (65, "mass [kg],speed [m/s],kinetic [kg m^2/s^2]\n2,3,9\n4,1,2\n")
@@ -193,14 +195,14 @@ def test_a_row_of_another_length_is_refused(um):
                          "<stdin>:5: the row has 3 cells, and the table 2 columns (row 3)\n")
 
 
-def test_what_is_no_csv_is_refused_after_the_rows_before(um):
+def test_what_is_no_csv_is_refused_after_the_rows_before(um: Um) -> None:
     found = um("table", VEHICLE, "kinetic", "-", stdin=MOTION + '"open,1\n2,3\n')
     assert found.status == 65
     assert found.out.endswith("\n2,3,9\n1.5,2,3\n")
     assert found.err.startswith("um: <stdin>:") and "this is no row of CSV" in found.err
 
 
-def test_bytes_that_are_no_text_are_refused_or_kept(um):
+def test_bytes_that_are_no_text_are_refused_or_kept(um: Um) -> None:
     data = b"note,mass [kg],speed [m/s]\n\xff,2,3\nb,\xff1,2\n"
     found = um("table", VEHICLE, "kinetic", "-", "--columns", "mass,speed", stdin=data)
     assert found.status == 65
@@ -208,7 +210,7 @@ def test_bytes_that_are_no_text_are_refused_or_kept(um):
     assert found.err.startswith("<stdin>:3: column 'mass [kg]': ")
 
 
-def test_marks_line_ends_quotes_and_other_delimiters(um):
+def test_marks_line_ends_quotes_and_other_delimiters(um: Um) -> None:
     data = "\ufeffmass [kg];speed [m/s]\r\n\"2\";3\r\n1.5;2\r\n"
     found = um("table", VEHICLE, "kinetic", "-", "--delimiter", ";", stdin=data)
     assert found.out == "mass [kg];speed [m/s];kinetic [kg m^2/s^2]\n2;3;9\n1.5;2;3\n"
@@ -216,7 +218,7 @@ def test_marks_line_ends_quotes_and_other_delimiters(um):
     assert found.out == "mass [kg]\tspeed [m/s]\tkinetic [kg m^2/s^2]\n2\t3\t9\n1.5\t2\t3\n"
 
 
-def test_a_function_or_a_text_that_is_refused_is_told_as_always(um):
+def test_a_function_or_a_text_that_is_refused_is_told_as_always(um: Um) -> None:
     found = um("table", VEHICLE, "kinetik", "-", stdin=MOTION)
     assert (found.status, found.out) == (11, "")
     assert found.err == f"{VEHICLE}: error 11: no such function\nsimilar: kinetic\n"
@@ -226,7 +228,7 @@ def test_a_function_or_a_text_that_is_refused_is_told_as_always(um):
     assert um("table", VEHICLE, "kinetic", "examples").err == "um: examples: Is a directory\n"
 
 
-def test_whole_columns_are_lists(um):
+def test_whole_columns_are_lists(um: Um) -> None:
     found = um("table", VEHICLE, "mean", "-", "--lists", stdin="d [m]\n1\n2\n6\n")
     assert (found.status, found.out) == (0, "mean [m]\n3\n")
     found = um("table", "examples/mechanics.um", "centre", "-", "--lists", stdin="x [m],w [kg]\n1,1\n3,3\n")
@@ -240,14 +242,14 @@ def test_whole_columns_are_lists(um):
     assert (found.status, found.err.splitlines()[0]) == (12, "<stdin>: error 12: division by zero")
 
 
-def test_a_list_that_comes_out_is_rows(um, program):
+def test_a_list_that_comes_out_is_rows(um: Um, program: Write) -> None:
     file = program("let rec twice (l: num<_> list) : num<_> list =\n"
                    "  match l with [] -> ([] : num<_> list) | x :: r -> 2 * x :: twice r\n[<Measure>] type m\n")
     found = um("table", file, "twice", "-", "--lists", stdin="d [m]\n1\n2.5\n")
     assert found.out == "twice [m]\n2\n5\n"
 
 
-def test_results_as_json(um):
+def test_results_as_json(um: Um) -> None:
     found = um("table", VEHICLE, "kinetic", "-", "--json", "--keep-going", stdin=MOTION + "x,1\n")
     assert found.objects == [
         {"status": 0, "row": 1, "line": 2, "text": "9<kg m^2/s^2>",
@@ -259,7 +261,7 @@ def test_results_as_json(um):
     assert found.status == 65
 
 
-def test_results_in_a_file(um, tmp_path):
+def test_results_in_a_file(um: Um, tmp_path: Path) -> None:
     data = tmp_path / "data.csv"
     data.write_text(MOTION)
     found = um("table", VEHICLE, "kinetic", data, "-o", data)
@@ -268,7 +270,7 @@ def test_results_in_a_file(um, tmp_path):
     assert list(tmp_path.iterdir()) == [data]
 
 
-def test_a_result_whose_unit_changes_is_refused(um, program):
+def test_a_result_whose_unit_changes_is_refused(um: Um, program: Write) -> None:
     file = program("[<Measure>] type m\n[<Measure>] type s\nlet first (l: num<_> list) : num<_> = "
                    "match l with [] -> 0<_> | x :: _ -> x")
     found = um("table", file, "first", "-", "--keep-going", stdin="l\n[]\n[1<m>]\n[1<s>]\n[2<m>]\n")
@@ -276,7 +278,7 @@ def test_a_result_whose_unit_changes_is_refused(um, program):
     assert found.err == "<stdin>:4: the result first is in s here, and in m above (row 3)\n"
 
 
-def test_the_budget_and_the_limits_are_those_of_each_run(um, script):
+def test_the_budget_and_the_limits_are_those_of_each_run(um: Um, script: Write) -> None:
     found = um("table", VEHICLE, "mean", "-", "--budget", "4", stdin="l\n[1<m>]\n\"[1<m>; 2<m>]\"\n")
     assert found.status == 13
     assert found.err.splitlines()[0] == "<stdin>:2: error 13: budget"
@@ -285,7 +287,7 @@ def test_the_budget_and_the_limits_are_those_of_each_run(um, script):
     assert (found.status, found.err) == (124, "um: the run took more than 0.5 s (--limit-time)\n")
 
 
-def test_a_hundred_megabytes_are_read_in_little_memory(tmp_path):
+def test_a_hundred_megabytes_are_read_in_little_memory(tmp_path: Path) -> None:
     data, out = tmp_path / "data.csv", tmp_path / "out.csv"
     with data.open("w") as file:
         file.write("mass [kg],speed [m/s],note\n")
@@ -306,7 +308,7 @@ def test_a_hundred_megabytes_are_read_in_little_memory(tmp_path):
     out.unlink()
 
 
-def test_there_is_a_bar_on_a_terminal(tmp_path):
+def test_there_is_a_bar_on_a_terminal(tmp_path: Path) -> None:
     data = tmp_path / "data.csv"
     data.write_text(MOTION + "3,1\n" * 50)
     ours, theirs = pty.openpty()
@@ -320,7 +322,7 @@ def test_there_is_a_bar_on_a_terminal(tmp_path):
     os.close(ours)
 
 
-def test_it_ends_quietly_when_nobody_reads_the_results(tmp_path):
+def test_it_ends_quietly_when_nobody_reads_the_results(tmp_path: Path) -> None:
     data = tmp_path / "data.csv"
     data.write_text("mass [kg],speed [m/s],note\n" + f"2,3,{'n' * 5000}\n" * 400)
     um = subprocess.Popen([sys.executable, UM, "table", VEHICLE, "kinetic", data, "--columns", "mass,speed", "--chunk",
@@ -332,7 +334,7 @@ def test_it_ends_quietly_when_nobody_reads_the_results(tmp_path):
     assert um.wait(timeout=WAIT) == -signal.SIGPIPE
 
 
-def test_a_file_of_results_is_left_as_it_was_when_a_signal_comes(tmp_path, script):
+def test_a_file_of_results_is_left_as_it_was_when_a_signal_comes(tmp_path: Path, script: Write) -> None:
     data, out = tmp_path / "data.csv", tmp_path / "out.csv"
     data.write_text(MOTION)
     out.write_text("before\n")

@@ -2,7 +2,7 @@
 from __future__ import annotations
 
 import random
-from collections.abc import Callable
+from collections.abc import Callable, Sequence
 from dataclasses import dataclass
 
 import programs
@@ -23,7 +23,7 @@ class Cases:
     """Makes cases. `image_of` gives the image of a text, or nothing; `rules` are those of the reference's grammar."""
 
     def __init__(self, seed: str, rules: dict, image_of: Callable[[bytes], bytes | None], new: bool,
-                 kinds: list[str] = ()) -> None:
+                 kinds: Sequence[str] = ()) -> None:
         self.seed, self.rules, self.image_of, self.new = seed, rules, image_of, new
         often = {self.typed: 6, self.faulty: 4, self.units: 4, self.equations: 2, self.sentence: 2, self.tokens: 3,
                  self.lines: 1, self.bytes: 2, self.image: 3, self.batch: 2, self.limit: 1}

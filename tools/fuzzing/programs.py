@@ -6,6 +6,7 @@ which a name with a quote is a unit variable.
 from __future__ import annotations
 
 import random
+from collections.abc import Sequence
 from dataclasses import dataclass, field
 
 Unit = dict
@@ -78,7 +79,7 @@ class Maker:
 
     # ---- units and types
 
-    def unit(self, variables: list[str] = ()) -> Unit:
+    def unit(self, variables: Sequence[str] = ()) -> Unit:
         """A small unit."""
         unit: Unit = {}
         for _ in range(self.rng.choice([0, 1, 1, 1, 2, 2, 3])):
