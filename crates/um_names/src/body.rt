@@ -21,7 +21,7 @@ pub(crate) fn body(lookup: &Lookup, scope: &mut Scope, raw: RawExpr) -> Result<E
         (expr_syntax raw))) }
     ensures scope { OnOk result (scope.new ≡ scope.old) }
 {
-    let RawExpr { at, node } = raw;
+    let (at, node) = raw.into_parts();
     match node {
         RawNode::List(items) => {
             let items = parts(lookup, scope, items.items)?;

@@ -30,11 +30,18 @@ pub enum Sign {
 
 /// An expression, at its place in the text.
 #[cycle(expression)]
-#[derive(Drop)]
 pub struct Expr {
     /// The byte offset of its place
     pub at: u32,
     pub node: Node,
+}
+
+// A derived drop would be proved anew in each crate that lets expressions go. This one is proved here.
+impl Drop for Expr {
+    #[cycle(expression)]
+    fn drop(self) {
+        let Expr { at: _, node: _ } = self;
+    }
 }
 
 /// What an expression is.

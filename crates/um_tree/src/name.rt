@@ -6,9 +6,15 @@ use std::marker::Model;
 use um_inline::InlineBytes;
 
 /// A name: its bytes as they stand in the text.
-#[derive(Drop)]
 pub struct Name {
     bytes: InlineBytes,
+}
+
+// A derived drop would be proved anew in each crate that lets names go. This one is proved here.
+impl Drop for Name {
+    fn drop(self) {
+        let Name { bytes: _ } = self;
+    }
 }
 
 impl Model for Name {
@@ -56,9 +62,15 @@ impl Name {
 }
 
 /// Some names, in order.
-#[derive(Drop)]
 pub struct Names {
     items: Vec<Name>,
+}
+
+// A derived drop would be proved anew in each crate that lets names go. This one is proved here.
+impl Drop for Names {
+    fn drop(self) {
+        let Names { items: _ } = self;
+    }
 }
 
 impl Model for Names {
@@ -84,7 +96,8 @@ impl Names {
     pub fn into_vec(self) -> Vec<Name>
         ensures { result.items ≡ self }
     {
-        self.items
+        let Names { items } = self;
+        items
     }
 
     /// The names.

@@ -1,12 +1,13 @@
 // The raw tree: what the grammar reads, before its names are looked up.
 //
 // Places are byte offsets in the text. Brackets leave a node here, so that a text can be laid out as it was written.
+ghost use Rattle.std.specs.Prelude.{◌≡◌};
+
 use crate::{Arith, Name, Sign};
 use um_frac::Frac;
 
 /// A unit text.
 #[cycle(raw_unit)]
-#[derive(Drop)]
 pub enum RawUnit {
     /// `1`, at its place
     One(u32),
@@ -26,6 +27,24 @@ pub enum RawUnit {
     Inverse(u32, Box<RawUnit>),
     /// Brackets, at the opening one
     Bracket(u32, Box<RawUnit>),
+}
+
+// A derived drop would be proved anew in each crate that lets unit texts go. This one is proved here.
+impl Drop for RawUnit {
+    #[cycle(raw_unit)]
+    fn drop(self) {
+        match self {
+            RawUnit::One(_) => {}
+            RawUnit::Name(_, _) => {}
+            RawUnit::Var(_, _) => {}
+            RawUnit::Power(_, _) => {}
+            RawUnit::Side(_) => {}
+            RawUnit::Times(_, _) => {}
+            RawUnit::Over(_, _) => {}
+            RawUnit::Inverse(_, _) => {}
+            RawUnit::Bracket(_, _) => {}
+        }
+    }
 }
 
 /// Some unit texts, in order.
@@ -79,10 +98,28 @@ pub struct Binder {
 
 /// An expression, at its place in the text.
 #[cycle(raw_expression)]
-#[derive(Drop)]
 pub struct RawExpr {
     pub at: u32,
     pub node: RawNode,
+}
+
+impl RawExpr {
+    /// Its place and its node.
+    pub fn into_parts(self) -> (u32, RawNode)
+        ensures at { result.0 ≡ self.at }
+        ensures node { result.1 ≡ self.node }
+    {
+        let RawExpr { at, node } = self;
+        (at, node)
+    }
+}
+
+// A derived drop would be proved anew in each crate that lets expressions go. This one is proved here.
+impl Drop for RawExpr {
+    #[cycle(raw_expression)]
+    fn drop(self) {
+        let RawExpr { at: _, node: _ } = self;
+    }
 }
 
 /// What an expression is.
@@ -204,6 +241,13 @@ pub enum RawDecl {
     Short(u32, Name, RawUnit),
     Record(u32, Name, RawVars, RawFieldDecls),
     Function(RawFunction),
+}
+
+impl RawDecl {
+    /// Gives its memory back. A crate that calls this has no proof of its own of how the trees are let go.
+    pub fn discard(self) {
+        drop(self);
+    }
 }
 
 /// A program as it is written: its declarations, in order.

@@ -10,13 +10,25 @@ use um_units::NoMemory;
 
 /// A value. It carries no unit.
 #[cycle(value)]
-#[derive(Drop)]
 pub enum Value {
     Bool(bool),
     Num(Frac),
     List(Values),
     /// A value of the record of this number, field by field
     Rec(u32, Values),
+}
+
+// A derived drop would be proved anew in each crate that lets values go. This one is proved here.
+impl Drop for Value {
+    #[cycle(value)]
+    fn drop(self) {
+        match self {
+            Value::Bool(_) => {}
+            Value::Num(_) => {}
+            Value::List(_) => {}
+            Value::Rec(_, _) => {}
+        }
+    }
 }
 
 /// Some values, in order.
@@ -28,12 +40,24 @@ pub struct Values {
 
 /// An argument as it is written: a value whose numbers carry their units.
 #[cycle(input)]
-#[derive(Drop)]
 pub enum Input {
     Bool(bool),
     Num(Frac, UnitNote),
     List(Inputs),
     Rec(u32, Inputs),
+}
+
+// A derived drop would be proved anew in each crate that lets inputs go. This one is proved here.
+impl Drop for Input {
+    #[cycle(input)]
+    fn drop(self) {
+        match self {
+            Input::Bool(_) => {}
+            Input::Num(_, _) => {}
+            Input::List(_) => {}
+            Input::Rec(_, _) => {}
+        }
+    }
 }
 
 /// Some inputs, in order.

@@ -24,11 +24,21 @@ use um_unit_texts::GREATEST_HEIGHT;
 
 /// A type text that has begun: the number of open brackets, what stands inside them, and the note that is read, if one
 /// has begun.
-#[derive(Drop)]
 pub struct TypeReader {
     depth: u32,
     focus: TypeFocus,
     note: NoteReader,
+}
+
+// A derived drop would be proved anew in each crate that lets readers go. This one is proved here.
+impl Drop for TypeReader {
+    fn drop(self) {
+        let TypeReader {
+            depth: _,
+            focus: _,
+            note: _,
+        } = self;
+    }
 }
 
 // The type text of what was read, if no bracket is open.

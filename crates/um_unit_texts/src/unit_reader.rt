@@ -16,10 +16,19 @@ use um_syntax::{Kind, Token};
 use um_tree::RawUnit;
 
 /// A unit text that has begun: what is open around the next part, and what stands inside it.
-#[derive(Drop)]
 pub struct UnitReader {
     frames: Frames,
     focus: Focus,
+}
+
+// A derived drop would be proved anew in each crate that lets readers go. This one is proved here.
+impl Drop for UnitReader {
+    fn drop(self) {
+        let UnitReader {
+            frames: _,
+            focus: _,
+        } = self;
+    }
 }
 
 fn unit_of(operand: Option<Operand>) -> Option<RawUnit>

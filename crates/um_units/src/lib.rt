@@ -104,9 +104,16 @@ impl From<AllocError> for UnitStop {
 }
 
 /// A unit: a finite map from atoms to powers other than 0.
-#[derive(Debug, Drop)]
+#[derive(Debug)]
 pub struct Unit {
     terms: Terms,
+}
+
+// A derived drop would be proved anew in each crate that lets units go. This one is proved here.
+impl Drop for Unit {
+    fn drop(self) {
+        let Unit { terms: _ } = self;
+    }
 }
 
 impl Model for Unit {
@@ -351,9 +358,16 @@ fn inverted(alloc: Global, terms: &[Term]) -> Result<Terms, AllocError>
 }
 
 /// A list of units.
-#[derive(Debug, Drop)]
+#[derive(Debug)]
 pub struct Units {
     items: Vec<Unit>,
+}
+
+// A derived drop would be proved anew in each crate that lets units go. This one is proved here.
+impl Drop for Units {
+    fn drop(self) {
+        let Units { items: _ } = self;
+    }
 }
 
 impl Model for Units {
