@@ -4,7 +4,7 @@ ghost use Rattle.std.specs.Prelude.{◌≡◌, ◌++◌, ◌+◌, ◌<◌, ◌^�
 ghost use Rattle.um_agree.specs.Asked.{asked_by, asked_parts, rule_each, first_each};
 
 use crate::rule::Rule;
-use std::alloc::{AllocError, Global};
+use std::alloc::AllocError;
 
 /// An agreement, and the node at which one of its two types stands. The nodes of a body are numbered from 0, each after
 /// its parts.

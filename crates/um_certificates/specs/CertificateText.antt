@@ -1,4 +1,4 @@
--- How certificates are printed: a line that names the function and says which kind its certificate is of, and behind
+-- How certificates are printed: a line that names the function and says which kind its certificate is of, and after
 -- it lines that begin with two spaces.
 -- Source: this project's own; units in the notation of F#.
 use Rattle.std.specs.Prelude.{ℕ, suc, ◌+◌, ℤ, Bool, if◌then◌else◌, List, [], ◌∷◌, ◌++◌, codes, length, map, Option}
@@ -12,7 +12,7 @@ use Rattle.um_check.specs.declared.certificate.Part.{Part}
 use Rattle.um_check.specs.declared.certificate.Yes.{Yes}
 use Rattle.um_check.specs.declared.certificate.No.{No}
 
--- the texts of the items, one behind the other, each by its number from n on
+-- the texts of the items, one after the other, each by its number from n on
 abbrev pub numbered : {X : Type 0} → (ℕ → X → List ℕ) → ℕ → List X → List ℕ
 numbered text n [] = []
 numbered text n (x ∷ xs) = text n x ++ numbered text (suc n) xs
@@ -36,7 +36,7 @@ rows_line k (p ∷ ps) = codes "  rows " ++ decimal k ++ codes ": " ++ parts_tex
 
 -- ---- names
 
--- behind the declared base units those of unit parameters are `$0`, `$1` and so on
+-- after the declared base units those of unit parameters are `$0`, `$1` and so on
 abbrev pub parameter_name : ℕ → List ℕ
 parameter_name k = codes "$" ++ decimal k
 

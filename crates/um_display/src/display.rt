@@ -12,7 +12,7 @@ use um_tree::{Program, Ty};
 /// number's. With it `um_show::text_by` gives the text of a value.
 ///
 /// The digits are at most 18. A number is printed as the nearest decimal number, of two nearest as the one whose last
-/// digit is even, and `~` stands before it if it isn't the value; behind it stands the label of the first unit that is
+/// digit is even, and `~` stands before it if it isn't the value; after it stands the label of the first unit that is
 /// its own, and otherwise its unit's own text. A number at a unit with a variable is printed as it is.
 #[derive(Drop)]
 pub struct Display<'a> {

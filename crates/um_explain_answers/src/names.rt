@@ -28,7 +28,7 @@ use um_reports::{reply_to_names, reply_to_shapes};
 use um_shape::{ShapeStop, shape};
 use um_sites::name_details;
 use um_text_details::push_limit_details;
-use um_tree::{Program, RawProgram};
+use um_tree::RawProgram;
 use um_types::LimitKind;
 
 /// The answer about a text that was read.

@@ -1,5 +1,5 @@
 -- What a call is answered, given the schemes of all functions.
--- Source: this project's own: a call is one more function, behind all others.
+-- Source: this project's own: a call is one more function, after all others.
 use Rattle.std.specs.Prelude.{ℕ, List, length}
 use Rattle.um_tree.specs.ValueTree.{InputTrees}
 use Rattle.um_tree.specs.ProgramTree.{FunctionTree, ProgramTree, SchemeTree}

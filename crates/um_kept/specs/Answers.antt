@@ -24,7 +24,7 @@ use Rattle.um_kept.specs.declared.made.Treated.TheVariants as treated
 use Rattle.um_kept.specs.Kept.{Kept, row_unit, row_total, first, IsReached}
 use Rattle.um_kept.specs.Formed.{IsPowerIn, IsModulus, PassesInRows}
 
--- the base unit of no unit parameter, which come behind the declared ones, stands in it
+-- the base unit of no unit parameter, which come after the declared ones, stands in it
 abbrev pub HoldsNoParameter : ℕ → ℕ → PowerMap → Type 0
 HoldsNoParameter bases parameters u = (i : ℕ) → i < parameters → power_of u (Base (bases + i)) ≡ pos 0
 
@@ -33,7 +33,7 @@ abbrev pub CarriesPower : ℕ → PowerMap → CertStop → Type 0
 CarriesPower limit u (stop.CertRange z) = IsPowerIn z u × (limit < nat_abs z)
 CarriesPower limit u stop.NoMemory = Unit {0}
 
--- what the code keeps: the way back of base unit bases + k of parameter k stands behind those of the slots
+-- what the code keeps: the inverse image of base unit bases + k of parameter k stands after those of the slots
 abbrev pub back_at : Head → List PowerMap → Atom → PowerMap
 back_at h bs (Base n) =
     if is_parameter h.bases h.parameters h.slots n

@@ -22,7 +22,7 @@ pub record Kept : Type 0 where
 
 -- ---- before any row
 
--- behind so many declared base units the one of unit parameter k goes back to slot k, and each other atom to itself
+-- after so many declared base units the one of unit parameter k goes back to slot k, and each other atom to itself
 abbrev pub first_back : ℕ → ℕ → Atom → PowerMap
 first_back bases parameters (Base n) =
     if is_parameter bases parameters 0 n then atom (Var (n - bases)) else atom (Base n)

@@ -1,6 +1,7 @@
 //! The treatment of one row.
 
-ghost use Rattle.std.specs.Prelude.{◌≡◌, ◌≤◌, ◌<◌, ◌+◌, ◌^◌, ◌*◌, ◌*ℤ◌, false, not, if◌then◌else◌, List, [], ◌∷◌, All, length};
+ghost use Rattle.std.specs.Prelude.{◌≡◌, ◌≤◌, ◌<◌, ◌+◌, ◌^◌, ◌*◌, ◌*ℤ◌, false, not, if◌then◌else◌};
+ghost use Rattle.std.specs.Prelude.{List, [], ◌∷◌, All, length};
 ghost use Rattle.std.specs.Prelude.{nat_abs, pos, None, slice_index_or, IfOk, OnOk, MatchResult, IfErr, IsTrue};
 ghost use Rattle.std.specs.Int.Signed.{◌<ℤ◌};
 ghost use Rattle.std.specs.List.{list_any};

@@ -92,7 +92,7 @@ occurring_in_head f = flat_map (λ p. type_variables p.type) f.params ++ result_
 abbrev pub occurring : FunctionSyntax → List (List ℕ)
 occurring f = occurring_in_head f ++ expr_variables f.body
 
--- each name once, behind those that are there, at its first occurrence
+-- each name once, after those that are there, at its first occurrence
 abbrev pub first_occurrences : List (List ℕ) → List (List ℕ) → List (List ℕ)
 first_occurrences before [] = before
 first_occurrences before (x ∷ xs) =

@@ -34,7 +34,7 @@ fn base_measures(alloc: Global, digest: NameDigest, bases: &[Name]) -> Result<Me
     Ok(measures)
 }
 
-/// These measures, and behind them the base unit of this number.
+/// These measures, and after them the base unit of this number.
 fn with_base(
     alloc: Global,
     measures: Measures,
@@ -48,7 +48,7 @@ fn with_base(
     measures.with(alloc, name.as_slice(), unit)
 }
 
-/// These measures, and behind them the abbreviation.
+/// These measures, and after them the abbreviation.
 fn with_abbreviation(
     alloc: Global,
     measures: Measures,
@@ -60,7 +60,7 @@ fn with_abbreviation(
     measures.with(alloc, short.name.as_slice(), unit)
 }
 
-/// These measures, and behind them the abbreviations.
+/// These measures, and after them the abbreviations.
 fn with_abbreviations(
     alloc: Global,
     bases: Measures,
@@ -76,7 +76,7 @@ fn with_abbreviations(
     Ok(measures)
 }
 
-/// The measures of a program and its abbreviations: the base units, and behind them the abbreviations, so that the
+/// The measures of a program and its abbreviations: the base units, and after them the abbreviations, so that the
 /// first of a name counts.
 ///
 /// It takes time for all of them. The one error is that memory is wanting, also where the base units are so many that

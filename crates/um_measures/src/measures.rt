@@ -64,7 +64,7 @@ impl Measures {
         }
     }
 
-    /// These measures and behind them one more, which is hidden where its name is known. Fails for want of memory
+    /// These measures and after them one more, which is hidden if its name is known. Fails for want of memory
     /// alone.
     pub fn with(self, alloc: Global, name: &[u8], unit: Unit) -> Result<Measures, AllocError>
         ensures { IfOk result (λ measures. (x : List ℕ)

@@ -55,7 +55,7 @@ impl Scope {
         Ok(())
     }
 
-    /// Forgets the variables behind the first ones.
+    /// Forgets the variables after the first ones.
     pub fn cut(&mut self, count: usize)
         ensures { self.new ≡ take count self.old }
     {

@@ -1,4 +1,4 @@
-//! The unit variables of a function, numbered behind its unit parameters by their first occurrence in its notes.
+//! The unit variables of a function, numbered after its unit parameters by their first occurrence in its notes.
 
 ghost use Rattle.std.specs.Prelude.{◌≡◌, [], OnOk, IfOk, map};
 ghost use Rattle.std.specs.List.{flat_map};
@@ -65,7 +65,7 @@ fn in_notes(names: &mut NameTable, alloc: Global, raw: &[RawNote]) -> Result<(),
     Ok(())
 }
 
-/// Adds the unit variables of a type text behind those that are there, each once, in the order of their first
+/// Adds the unit variables of a type text after those that are there, each once, in the order of their first
 /// occurrence.
 pub fn add_type_variables(
     names: &mut NameTable,
@@ -191,7 +191,7 @@ fn in_head(names: &mut NameTable, alloc: Global, function: &RawFunction) -> Resu
     }
 }
 
-/// The named unit variables of a function, in the order of their numbers: its unit parameters, and behind them each
+/// The named unit variables of a function, in the order of their numbers: its unit parameters, and after them each
 /// other one that its notes name, once, by its first occurrence in the parameters, the result and the body. A number's
 /// unit is no note of the function. Fails for want of memory alone, or where there are 2^32 - 1 names. Unit parameters
 /// of functions are the F# specification's, Units Of Measure.

@@ -10,7 +10,7 @@ use Rattle.um_measures.specs.Faults.{unless_taken, Found, and_then}
 use Rattle.um_measures.specs.Known.{Known, is_among, field_names}
 use Rattle.um_names.specs.TypeNames.{resolved_type, written_type}
 
--- a field behind these names of fields of its own record
+-- a field after these names of fields of its own record
 abbrev pub resolved_field_decl : Known → List (List ℕ) → List (List ℕ) → FieldDeclSyntax → Found FieldTree
 resolved_field_decl known variables own f =
     and_then (unless_taken (is_among (field_names known.program.records) f.name || is_among own f.name) f.at) (λ _.

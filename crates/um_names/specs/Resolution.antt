@@ -18,7 +18,7 @@ use Rattle.um_names.specs.declared.callable.Callable.{Callable}
 
 -- ---- unit parameters of a record or a function
 
--- each once, behind those before
+-- each once, after those before
 abbrev pub resolved_parameters : List (List ℕ) → List VarSyntax → Found (List (List ℕ))
 resolved_parameters before [] = Ok before
 resolved_parameters before (v ∷ vs) =
@@ -26,7 +26,7 @@ resolved_parameters before (v ∷ vs) =
 
 -- ---- a record
 
--- its fields, each with a name that is new among all fields, behind those before
+-- its fields, each with a name that is new among all fields, after those before
 abbrev pub resolved_field_decls : Known → List (List ℕ) → List FieldTree → List FieldDeclSyntax → Found (List FieldTree)
 resolved_field_decls known variables before [] = Ok before
 resolved_field_decls known variables before (f ∷ fs) =
@@ -127,7 +127,7 @@ with_function known f = record {
   shorts = known.shorts;
 }
 
--- what is known behind a declaration
+-- what is known after a declaration
 abbrev pub resolved_decl : Known → DeclSyntax → Found Known
 resolved_decl known (base_syntax at x) = and_then (unless_taken (is_taken known x) at) (λ _. Ok (with_base known x))
 resolved_decl known (short_syntax at x u) =

@@ -4,11 +4,13 @@ ghost use Rattle.std.specs.Prelude.{◌≡◌, [], false, Ok, IfOk, IfErr, OnOk,
 ghost use Rattle.um_tree.specs.ExprTree.{expr_tree};
 ghost use Rattle.um_tree.specs.ProgramTree.{result_tree, field_tree};
 ghost use Rattle.um_tree.specs.RawTree.{var_syntax, field_decl_syntax, whole_function_syntax, decl_syntax, base_syntax};
-ghost use Rattle.um_tree.specs.RawTree.{short_syntax, record_decl_syntax, function_syntax, unit_syntax, expr_syntax, written_type};
+ghost use Rattle.um_tree.specs.RawTree.{short_syntax, record_decl_syntax, function_syntax};
+ghost use Rattle.um_tree.specs.RawTree.{unit_syntax, expr_syntax, written_type};
 ghost use Rattle.um_measures.specs.Known.{is_taken, is_among, function_names, record_names};
 ghost use Rattle.um_measures.specs.Variables.{expr_variables, named_variables};
 ghost use Rattle.um_names.specs.Parts.{itself};
-ghost use Rattle.um_names.specs.Resolution.{resolved_function, resolved_decl, resolved_result, with_function, with_record};
+ghost use Rattle.um_names.specs.Resolution.{resolved_function, resolved_decl, resolved_result};
+ghost use Rattle.um_names.specs.Resolution.{with_function, with_record};
 ghost use Rattle.um_names.specs.Bodies.{with_body, with_whole, function_with};
 ghost use Rattle.um_measures.specs.Stops.{IsFirst};
 ghost use Rattle.um_names.specs.Tables.{AreTables, known_of, own_callable};

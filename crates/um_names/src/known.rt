@@ -15,7 +15,7 @@ ghost use Rattle.um_names.specs.Tables.{callables_in, own_found};
 ghost use Rattle.um_names.specs.ExprNames.{field_of, callable_of, same_names, if_same_names};
 
 use crate::callable::{Callable, FieldNumber, counted};
-use std::alloc::{AllocError, Global};
+use std::alloc::Global;
 use um_measures::{
     Abbreviation, Measures, NameDigest, NameStop, NameTable, first_unknown, resolved_unit,
 };

@@ -29,7 +29,7 @@ fn declare_all(alloc: Global, tables: &mut Tables, raw: &[RawDecl]) -> Result<()
     Ok(())
 }
 
-/// The tables behind these declarations.
+/// The tables after these declarations.
 fn declarations(alloc: Global, raw: &[RawDecl]) -> Result<Tables, NameStop>
     ensures exact { IfOk result (λ t. resolution (map decl_syntax raw.now) ≡ Ok (known_of t)) }
     ensures faults { IfErr result (IsFirst (resolution (map decl_syntax raw.now))) }
@@ -57,7 +57,7 @@ fn declare_each(alloc: Global, tables: &mut Tables, raw: Vec<RawDecl>) -> Result
     Ok(())
 }
 
-/// The tables behind these declarations, which are handed over.
+/// The tables after these declarations, which are handed over.
 fn tables_of(alloc: Global, raw: Vec<RawDecl>) -> Result<Tables, NameStop>
     ensures exact { IfOk result (λ t. resolution (map decl_syntax raw.items) ≡ Ok (known_of t)) }
     ensures faults { IfErr result (IsFirst (resolution (map decl_syntax raw.items))) }

@@ -20,7 +20,7 @@ pub struct Parameters {
     pub scope: Scope,
 }
 
-/// The parameters of a function, each looked at behind those before.
+/// The parameters of a function, each looked at after those before it.
 pub fn params(
     alloc: Global,
     tables: &Tables,

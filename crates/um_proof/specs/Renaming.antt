@@ -49,7 +49,7 @@ abbrev pub GoBack : List ℕ → List ℕ → List PowerMap → List PowerMap �
 GoBack order held back new = All (λ k. nth new (place order k) ≡ nth back k) held
 
 module _ (h : Head) (g : Signature) (units : List PowerMap) where
-  -- the unit of a parameter is a variable behind the slots'
+  -- the unit of a parameter is a variable after the slots'
   abbrev pub general_units : List PowerMap
   general_units = map (generalised_unit h.bases h.parameters h.slots) units
 

@@ -21,4 +21,6 @@ pub use program::prove;
 pub use proofs::{Proofs, YesList};
 pub use refused::make_no;
 pub use stop::ProveStop;
+pub use um_check::{No, Part, Yes, check_no, check_yes};
+pub use um_kept::CertStop;
 pub use yes::make_yes;

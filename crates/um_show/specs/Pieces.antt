@@ -35,7 +35,7 @@ piece_text hole = codes "_"
 piece_text space = codes " "
 piece_text line_end = codes "\n"
 
--- the bytes of pieces that stand one behind the other
+-- the bytes of pieces that stand one after the other
 abbrev pub text_of : List Piece → List ℕ
 text_of pieces = flat_map piece_text pieces
 

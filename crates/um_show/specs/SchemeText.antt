@@ -24,7 +24,7 @@ record_name p r = declared_name (slice_get p.records r)
 
 -- ---- if each variable has this text
 module _ (variable : ℕ → List ℕ) where
-  -- the units of a record type stand behind its name
+  -- the units of a record type stand after its name
   abbrev pub units_text : List (List ℕ) → List PowerMap → List ℕ
   units_text bases [] = []
   units_text bases (u ∷ us) =

@@ -76,7 +76,7 @@ module _ (variable : ℕ → List ℕ) (bases : List (List ℕ)) where
   abbrev pub factors_text : List Term → List ℕ
   factors_text ts = join_by factor_text (codes " ") ts
 
-  -- the divisors stand behind one `/`
+  -- the divisors stand after one `/`
   abbrev pub divisors_text : List Term → List ℕ
   divisors_text [] = []
   divisors_text (t ∷ ts) = codes "/" ++ factors_text (t ∷ ts)

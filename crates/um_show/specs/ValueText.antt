@@ -49,7 +49,7 @@ suffix_text unit closed [] = []
 suffix_text unit true (t ∷ ts) = codes "<" ++ unit ++ codes ">"
 suffix_text unit false (t ∷ ts) = codes "<_>"
 
--- what stands behind a number of this type
+-- what stands after a number of this type
 abbrev pub suffix_at : List (List ℕ) → TypeTree → List ℕ
 suffix_at bases bool_type = []
 suffix_at bases (num_type u) = suffix_text (unit_text bases u) (variables_below 0 u.terms) u.terms
@@ -59,7 +59,7 @@ suffix_at bases (record_type r us) = []
 abbrev pub separator : List ℕ
 separator = codes "; "
 
--- a number with what stands behind it, at a type
+-- a number with what stands after it, at a type
 abbrev pub number_at : List (List ℕ) → Frac → TypeTree → List ℕ
 number_at bases c t = number_text c ++ suffix_at bases t
 
@@ -73,7 +73,7 @@ module _ (number : Frac → TypeTree → List ℕ) (p : ProgramTree) where
     text_by (record_value r vs) t =
         codes "{ " ++ fields_by [] vs (fields_in (slice_get p.records r) (units_in t)) ++ codes " }"
 
-    -- items, the first behind this, the others behind `; `
+    -- items, the first after this, the others after `; `
     pub items_by : List ℕ → ValueTrees → TypeTree → List ℕ
     items_by gap no_values t = []
     items_by gap (more_values v vs) t = gap ++ text_by v t ++ items_by separator vs t

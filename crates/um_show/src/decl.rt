@@ -23,7 +23,7 @@ const MOST_ROOM: u32 = 1_048_576;
 // The room that is made for the last declaration.
 const LAST_ROOM: usize = 4096;
 
-/// The text of a program in its layout: one declaration a line, with a line feed behind each.
+/// The text of a program in its layout: one declaration a line, with a line feed after each.
 ///
 /// Comments and places are not in the tree, so they are dropped. `NoMemory` is its one error. The layout is this
 /// project's own.

@@ -30,7 +30,7 @@ pub fn scheme_text(
     Ok(text)
 }
 
-/// Adds the types of parameters, an arrow behind each.
+/// Adds the types of parameters, an arrow after each.
 fn push_params(
     alloc: Global,
     text: &mut Vec<u8>,

@@ -63,7 +63,7 @@ impl<'a> ValuePrinter for Exact<'a> {
     }
 }
 
-/// Adds the text of a number at a type as it is: the number, and directly behind it its unit in angle brackets.
+/// Adds the text of a number at a type as it is: the number, and directly after it its unit in angle brackets.
 pub fn push_number_at(
     alloc: Global,
     text: &mut Vec<u8>,
@@ -78,7 +78,7 @@ pub fn push_number_at(
     push_suffix_at(alloc, text, bases, ty)
 }
 
-/// Adds what stands behind a number of this type.
+/// Adds what stands after a number of this type.
 fn push_suffix_at(
     alloc: Global,
     text: &mut Vec<u8>,

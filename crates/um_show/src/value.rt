@@ -19,7 +19,7 @@ use um_frac::Frac;
 use um_tree::{FieldDecl, Name, Program, Ty, Value};
 use um_units::{Unit, UnitStop};
 
-/// The text of a value at a type: `true`, `false`; a number, and directly behind it its unit in angle brackets, nothing
+/// The text of a value at a type: `true`, `false`; a number, and directly after it its unit in angle brackets, nothing
 /// at the unit 1, `<_>` at a unit with a variable; `[A; B]`; `{ f = A; g = B }`, the fields in the order of
 /// declaration.
 ///

@@ -45,7 +45,7 @@ module _ (known : Known) (variables : List (List ℕ)) where
   all_type_names [] = Ok tt
   all_type_names (t ∷ ts) = and_then (type_names t) (λ _. all_type_names ts)
 
-  -- behind names that are known only a range is refused
+  -- after names that are known only a range is refused
   abbrev pub one_type : TypeSyntax → Found TypeTree
   one_type t = and_then (resolved_type known variables false t) (λ n. Ok (written_type n))
 

@@ -12,7 +12,7 @@ ghost use Rattle.um_trace_answers.specs.TraceText.{stop_label};
 ghost use Rattle.um_trace_answers.specs.TraceAnswer.{TraceAnswer, IsTraceAnswer, TracedRun};
 
 use crate::stop::reply_to_stop;
-use std::alloc::{AllocError, Global};
+use std::alloc::Global;
 use um_call_answers::{CallWords, Compiled, read_asked, reply_to_value};
 use um_frac::Trap;
 use um_front::{Answer, Checked, Text, check};

@@ -13,7 +13,7 @@ ghost use Rattle.um_trace_answers.specs.TraceText.{stop_label, trace_text};
 ghost use Rattle.um_trace_answers.specs.TraceAnswer.{IsStopTold};
 
 use crate::lines::push_where;
-use std::alloc::{AllocError, Global};
+use std::alloc::Global;
 use um_eval::{Path, TreeRunner};
 use um_front::{Answer, Checked};
 use um_reports::{Reply, Status, reply_line};
