@@ -36,7 +36,7 @@ pub enum Before {
 
 // The box of an operand that is let go with its frame.
 fn no_call(frame: Frame, operand: Operand) -> Box<RawExpr> {
-    drop(frame);
+    frame.discard();
     operand.tree
 }
 

@@ -18,7 +18,7 @@ use um_syntax::{Keyword, Symbol};
 pub fn refuse(frame: Frame, inner: Operand) -> Step
     ensures { result ≡ Stops None }
 {
-    drop(frame);
+    frame.discard();
     drop(inner);
     Step::Stops(None)
 }

@@ -48,7 +48,7 @@ fn open_if(begun: &mut Begun, rank: u8, frame: Frame) -> Result<Step, AllocError
 fn refuse_frame(frame: Frame) -> Step
     ensures { result ≡ Stops None }
 {
-    drop(frame);
+    frame.discard();
     Step::Stops(None)
 }
 

@@ -71,6 +71,11 @@ fn unframed(frame: Frame, last: Operand) -> Operand
 }
 
 impl Frame {
+    /// Gives its memory back. A crate that calls this has no proof of its own of how the trees are let go.
+    pub fn discard(self) {
+        drop(self);
+    }
+
     /// The rank of what stands in it lies below this.
     #[inline(always)]
     pub fn bound(&self) -> u8

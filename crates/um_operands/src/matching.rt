@@ -9,11 +9,21 @@ use um_tree::{Binder, RawExpr, RawNode};
 use um_unit_texts::{higher, one_higher};
 
 /// A `match` up to the bar of its full arm: its place, the list, and the expression of the empty arm.
-#[derive(Drop)]
 pub struct Matching {
     pub at: u32,
     pub list: Operand,
     pub empty: Operand,
+}
+
+// A derived drop would be proved anew in each crate that lets such a `match` go. This one is proved here.
+impl Drop for Matching {
+    fn drop(self) {
+        let Matching {
+            at: _,
+            list: _,
+            empty: _,
+        } = self;
+    }
 }
 
 impl Matching {

@@ -15,7 +15,6 @@ use um_tree::{Name, RawExpr, RawExprs, RawField, RawFields, RawNode};
 use um_unit_texts::{higher, one_higher};
 
 /// Some expressions and the height of the highest, counted. No unit text or type text in them is too high.
-#[derive(Drop)]
 pub struct Operands {
     pub items: Vec<RawExpr>,
     pub height: u32,
@@ -23,13 +22,32 @@ pub struct Operands {
     ghost low: { notes_in_all (exprs_in_order (map expr_syntax items.items)) ≤ greatest_height },
 }
 
+// A derived drop would be proved anew in each crate that lets them go. This one is proved here.
+impl Drop for Operands {
+    fn drop(self) {
+        let Operands {
+            items: _,
+            height: _,
+        } = self;
+    }
+}
+
 /// Some fields of a record text and the height of the highest, counted. No unit text or type text in them is too high.
-#[derive(Drop)]
 pub struct ReadFields {
     pub items: Vec<RawField>,
     pub height: u32,
     ghost exact: { height ≡ counted (tallest_field (fields_in_order (map field_part items.items))) },
     ghost low: { notes_in_fields (fields_in_order (map field_part items.items)) ≤ greatest_height },
+}
+
+// A derived drop would be proved anew in each crate that lets them go. This one is proved here.
+impl Drop for ReadFields {
+    fn drop(self) {
+        let ReadFields {
+            items: _,
+            height: _,
+        } = self;
+    }
 }
 
 // The items, with one more.
