@@ -243,13 +243,6 @@ pub enum RawDecl {
     Function(RawFunction),
 }
 
-impl RawDecl {
-    /// Gives its memory back. A crate that calls this has no proof of its own of how the trees are let go.
-    pub fn discard(self) {
-        drop(self);
-    }
-}
-
 /// A program as it is written: its declarations, in order.
 #[derive(Drop)]
 pub struct RawProgram {
