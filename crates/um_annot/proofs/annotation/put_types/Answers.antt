@@ -67,6 +67,3 @@ loop-i-preserved-in-Some-2 c = grind (arith, common_steps)
 
 pub loop-i-preserved-in-Some-3 : goal.loop-i-preserved-in-Some-3
 loop-i-preserved-in-Some-3 c = grind (arith, common_steps)
-
-pub loop-i-preserved-in-Some-4 : goal.loop-i-preserved-in-Some-4
-loop-i-preserved-in-Some-4 c = grind (arith, common_steps)
