@@ -236,15 +236,14 @@ fn put_numbered(
 }
 
 /// Puts nodes with these places and with the last of the types in place of the nodes.
-fn put_types(order: &[Placed], nodes: &mut Vec<NodeType>, types: Types)
+fn put_types(order: &[Placed], nodes: &mut Vec<NodeType>, mut types: Types)
     requires nodes { length order.now ≡ length nodes.old.items }
     requires count { length order.now ≤ length types.items.items }
     ensures { (heads : ℕ) → length types.items.items ≡ heads + length order.now
         → map typed_node nodes.new.items ≡ retyped (placed_nodes [] order.now) (drop heads (type_trees types)) }
 {
-    let mut types = types.items;
     for i in (0..order.len()).rev() {
-        match types.pop() {
+        match types.items.pop() {
             Some(ty) => {
                 nodes[i] = NodeType {
                     at: order[i].at,

@@ -25,11 +25,21 @@ use um_tree::Ty;
 use um_units::{Atom, NoMemory, Unit};
 
 /// The most general solution of the rows that were added: a unit for each slot.
-#[derive(Drop)]
 pub struct Solver {
     units: Vec<Unit>,
     index: Vec<SlotList>,
     spent: bool,
+}
+
+// A derived drop would be proved anew in each crate that lets solvers go. This one is proved here.
+impl Drop for Solver {
+    fn drop(self) {
+        let Solver {
+            units: _,
+            index: _,
+            spent: _,
+        } = self;
+    }
 }
 
 impl Model for Solver {

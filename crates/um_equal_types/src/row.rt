@@ -7,26 +7,49 @@ use um_tree::{Ty, Types};
 use um_units::Unit;
 
 /// An equation at a place of the text: it asks that the unit, over slots, is 1.
-#[derive(Drop)]
 pub struct Row {
     pub at: u32,
     pub unit: Unit,
 }
 
+// A derived drop would be proved anew in each crate that lets rows go. This one is proved here.
+impl Drop for Row {
+    fn drop(self) {
+        let Row { at: _, unit: _ } = self;
+    }
+}
+
 /// Some rows, in order.
-#[derive(Drop)]
 pub struct RowList {
     pub items: Vec<Row>,
 }
 
+// A derived drop would be proved anew in each crate that lets rows go. This one is proved here.
+impl Drop for RowList {
+    fn drop(self) {
+        let RowList { items: _ } = self;
+    }
+}
+
 /// The equations of a function: how many slots it has, its rows, and the types of its parameters and of its body over
 /// the slots.
-#[derive(Drop)]
 pub struct Rows {
     pub slots: u32,
     pub list: RowList,
     pub params: Types,
     pub result: Ty,
+}
+
+// A derived drop would be proved anew in each crate that lets rows go. This one is proved here.
+impl Drop for Rows {
+    fn drop(self) {
+        let Rows {
+            slots: _,
+            list: _,
+            params: _,
+            result: _,
+        } = self;
+    }
 }
 
 /// Why a function has no rows.

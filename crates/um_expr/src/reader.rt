@@ -45,10 +45,16 @@ pub enum Inner {
 }
 
 /// An expression that has begun, with the note or the type that is read inside it.
-#[derive(Drop)]
 pub struct ExprReader {
     begun: Begun,
     inner: Inner,
+}
+
+// A derived drop would be proved anew in each crate that lets readers go. This one is proved here.
+impl Drop for ExprReader {
+    fn drop(self) {
+        let ExprReader { begun: _, inner: _ } = self;
+    }
 }
 
 fn tree_of(operand: Option<Operand>) -> Option<RawExpr>
@@ -85,7 +91,7 @@ fn finished(alloc: Global, frames: &mut Frames, focus: Focus) -> Result<Option<R
 fn no_tree(focus: Focus) -> Option<RawExpr>
     ensures { result ≡ None }
 {
-    drop(focus);
+    focus.discard();
     None
 }
 

@@ -154,7 +154,7 @@ fn noted(
             Ok(Operand::noted(tree, at, value, note))
         }
         other => {
-            drop(other);
+            other.discard();
             Operand::number(alloc, at, value, Some(note))
         }
     }

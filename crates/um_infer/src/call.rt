@@ -38,13 +38,7 @@ pub fn type_call(
 {
     prove!(f < function_count(shaped));
     match call_scheme(alloc, shaped, schemes, f, args) {
-        Ok(
-            Scheme {
-                params: _,
-                result,
-                vars: _,
-            },
-        ) => Ok(result),
+        Ok(scheme) => Ok(scheme.into_result()),
         Err(refusal) => Err(call_stop_of(refusal)),
     }
 }

@@ -7,16 +7,28 @@ use um_tree::Name;
 use um_units::Unit;
 
 /// A name for a unit.
-#[derive(Drop)]
 pub struct Abbreviation {
     pub name: Name,
     pub unit: Unit,
 }
 
+// A derived drop would be proved anew in each crate that lets abbreviations go. This one is proved here.
+impl Drop for Abbreviation {
+    fn drop(self) {
+        let Abbreviation { name: _, unit: _ } = self;
+    }
+}
+
 /// Some abbreviations, in order.
-#[derive(Drop)]
 pub struct Abbreviations {
     items: Vec<Abbreviation>,
+}
+
+// A derived drop would be proved anew in each crate that lets abbreviations go. This one is proved here.
+impl Drop for Abbreviations {
+    fn drop(self) {
+        let Abbreviations { items: _ } = self;
+    }
 }
 
 impl Model for Abbreviations {
@@ -44,7 +56,8 @@ impl Abbreviations {
     pub fn into_vec(self) -> Vec<Abbreviation>
         ensures { result.items ≡ self }
     {
-        self.items
+        let Abbreviations { items } = self;
+        items
     }
 
     /// The abbreviations.

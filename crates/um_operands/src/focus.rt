@@ -63,6 +63,11 @@ pub enum Step {
 }
 
 impl Focus {
+    /// Gives its memory back. A crate that calls this has no proof of its own of how the trees are let go.
+    pub fn discard(self) {
+        drop(self);
+    }
+
     /// From now on this stands inside the frames. If an operand was wanted, there is nothing to let go.
     #[inline(always)]
     pub fn put(&mut self, next: Focus)

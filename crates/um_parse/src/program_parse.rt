@@ -27,7 +27,7 @@ fn limited(program: RawProgram, end: u32, spaced: bool) -> Result<RawProgram, Pa
 {
     match first_passed(&program.items, end, spaced) {
         Some(passed) => {
-            drop(program);
+            program.discard();
             Err(ParseStop::Limit {
                 kind: passed.kind,
                 at: passed.at,

@@ -11,10 +11,18 @@ use um_syntax::{Kind, Token};
 use um_tree::{RawDecl, RawProgram};
 
 /// A program that has begun: the declarations before the last one, and that one.
-#[derive(Drop)]
 pub struct ProgramReader {
     decls: Vec<RawDecl>,
     last: DeclReader,
+}
+
+// The crates of its parts have the proofs of how these are let go.
+impl Drop for ProgramReader {
+    fn drop(self) {
+        let ProgramReader { decls, last } = self;
+        RawProgram { items: decls }.discard();
+        drop(last);
+    }
 }
 
 // The program of these declarations, if the last one is whole.
@@ -24,7 +32,7 @@ fn program_of(decls: Vec<RawDecl>, whole: bool) -> Option<RawProgram>
     if whole {
         Some(RawProgram { items: decls })
     } else {
-        drop(decls);
+        RawProgram { items: decls }.discard();
         None
     }
 }
@@ -174,7 +182,7 @@ impl Reader for ProgramReader {
             }
             Err(error) => {
                 drop(last);
-                drop(decls);
+                RawProgram { items: decls }.discard();
                 Err(error)
             }
         }

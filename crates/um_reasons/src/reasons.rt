@@ -156,12 +156,9 @@ fn factor_of(
 fn factor_of_type(alloc: Global, bases: u32, ty: Ty) -> Result<Option<Unit>, AllocError>
     ensures { (u : PowerMap) → type_tree ty ≡ num_type u → IsTrue (fits u) → IfOk result (λ f. f ≡ factor bases u) }
 {
-    match ty {
-        Ty::Num(unit) => closed_inverse(alloc, bases, &unit),
-        other => {
-            drop(other);
-            Ok(None)
-        }
+    match &ty {
+        Ty::Num(unit) => closed_inverse(alloc, bases, unit),
+        Ty::Bool | Ty::List(_) | Ty::Rec(_, _) => Ok(None),
     }
 }
 

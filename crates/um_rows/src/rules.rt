@@ -5,7 +5,7 @@ ghost use Rattle.um_tree.specs.TypeTree.{type_tree, bool_type, num_type};
 ghost use Rattle.um_units.specs.Range.{fits};
 ghost use Rattle.um_elim.specs.Application.{type_fits};
 ghost use Rattle.um_rows.specs.Rules.{formed, mismatch as mismatched, local_rule, negate_rule, not_rule, pown_rule};
-ghost use Rattle.um_rows.specs.Rules.{truths_rule, units_rule, arith_rule, compare_rule, if_rule, split_rule, nil_rule};
+ghost use Rattle.um_rows.specs.Rules.{truths_rule, arith_rule, compare_rule, if_rule, split_rule, nil_rule};
 ghost use Rattle.um_rows.specs.Rules.{list_rule, cons_rule, number_rule, asks_bool, asks_list};
 ghost use Rattle.um_equal_types.specs.Pushed.{ArePushed};
 ghost use Rattle.um_rows.specs.Walk.{node};
@@ -80,8 +80,8 @@ pub(crate) fn negate(
         progress.new result }
     ensures fits { IfOk result (λ ty. IsTrue (type_fits (type_tree ty))) }
 {
-    match part {
-        Ty::Num(unit) => Ok(Ty::Num(unit)),
+    match &part {
+        Ty::Num(_) => Ok(part),
         Ty::Bool | Ty::List(_) | Ty::Rec(_, _) => mismatch(alloc, at, progress),
     }
 }
@@ -110,7 +110,7 @@ pub(crate) fn pown(
         progress.new result }
     ensures fits { IfOk result (λ ty. IsTrue (type_fits (type_tree ty))) }
 {
-    match part {
+    match &part {
         Ty::Num(unit) => match unit.pow(alloc, k) {
             Ok(unit) => Ok(Ty::Num(unit)),
             Err(UnitStop::Range) => Err(RowStop::Range { at }),
@@ -138,63 +138,8 @@ pub(crate) fn truths(
     Ok(Ty::Bool)
 }
 
-/// An operation on numbers of two units.
-#[tactic(auto, using(crate::proofs::NodeLaws::node_formed, crate::proofs::NodeLaws::node_stops, crate::proofs::NodeLaws::node_past))]
-fn units(
-    alloc: Global,
-    at: u32,
-    op: Arith,
-    left: Unit,
-    right: &Unit,
-    progress: &mut Progress,
-) -> Result<Ty, RowStop>
-    requires fits { IsTrue (fits left) }
-    ensures reached { IsReached (node progress.old.rows.items progress.old.holes (units_rule at op left right.now))
-        progress.new result }
-    ensures fits { IfOk result (λ ty. IsTrue (type_fits (type_tree ty))) }
-{
-    match op {
-        Arith::Add | Arith::Sub => {
-            match push_quotient(alloc, at, &left, right, &mut progress.rows) {
-                Ok(()) => Ok(Ty::Num(left)),
-                Err(stop) => {
-                    drop(left);
-                    Err(stop)
-                }
-            }
-        }
-        Arith::Mul => match left.mul(alloc, right) {
-            Ok(unit) => {
-                drop(left);
-                Ok(Ty::Num(unit))
-            }
-            Err(UnitStop::Range) => {
-                drop(left);
-                Err(RowStop::Range { at })
-            }
-            Err(UnitStop::NoMemory) => {
-                drop(left);
-                Err(RowStop::NoMemory)
-            }
-        },
-        Arith::Div => match left.mul_pow(alloc, right, -1) {
-            Ok(unit) => {
-                drop(left);
-                Ok(Ty::Num(unit))
-            }
-            Err(UnitStop::Range) => {
-                drop(left);
-                Err(RowStop::Range { at })
-            }
-            Err(UnitStop::NoMemory) => {
-                drop(left);
-                Err(RowStop::NoMemory)
-            }
-        },
-    }
-}
-
 /// A sum, a difference, a product or a quotient.
+#[tactic(auto, using(crate::proofs::NodeLaws::node_formed, crate::proofs::NodeLaws::node_stops, crate::proofs::NodeLaws::node_past))]
 pub(crate) fn arith(
     alloc: Global,
     at: u32,
@@ -208,8 +153,23 @@ pub(crate) fn arith(
         (arith_rule at op (type_tree left) (type_tree right.now))) progress.new result }
     ensures fits { IfOk result (λ ty. IsTrue (type_fits (type_tree ty))) }
 {
-    match (left, right) {
-        (Ty::Num(left), Ty::Num(right)) => units(alloc, at, op, left, right, progress),
+    match (&left, right) {
+        (Ty::Num(unit), Ty::Num(other)) => match op {
+            Arith::Add | Arith::Sub => {
+                push_quotient(alloc, at, unit, other, &mut progress.rows)?;
+                Ok(left)
+            }
+            Arith::Mul => match unit.mul(alloc, other) {
+                Ok(product) => Ok(Ty::Num(product)),
+                Err(UnitStop::Range) => Err(RowStop::Range { at }),
+                Err(UnitStop::NoMemory) => Err(RowStop::NoMemory),
+            },
+            Arith::Div => match unit.mul_pow(alloc, other, -1) {
+                Ok(quotient) => Ok(Ty::Num(quotient)),
+                Err(UnitStop::Range) => Err(RowStop::Range { at }),
+                Err(UnitStop::NoMemory) => Err(RowStop::NoMemory),
+            },
+        },
         _ => mismatch(alloc, at, progress),
     }
 }
@@ -302,10 +262,10 @@ pub(crate) fn cons(
         (cons_rule at (type_tree head.now) (type_tree tail))) progress.new result }
     ensures fits { IfOk result (λ ty. IsTrue (type_fits (type_tree ty))) }
 {
-    match tail {
+    match &tail {
         Ty::List(item) => {
-            against(alloc, at, head, &item, &mut progress.rows)?;
-            Ok(Ty::List(item))
+            against(alloc, at, head, item, &mut progress.rows)?;
+            Ok(tail)
         }
         Ty::Bool | Ty::Num(_) | Ty::Rec(_, _) => mismatch(alloc, at, progress),
     }

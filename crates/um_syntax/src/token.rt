@@ -14,9 +14,15 @@ use um_vocabulary::{Keyword, Symbol};
 pub type NoMemory = AllocError;
 
 /// A list of bytes: the letters of a name, in UTF-8.
-#[derive(Drop)]
 pub struct Letters {
     bytes: InlineBytes,
+}
+
+// A derived drop would be proved anew in each crate that lets letters go. This one is proved here.
+impl Drop for Letters {
+    fn drop(self) {
+        let Letters { bytes: _ } = self;
+    }
 }
 
 impl Model for Letters {
@@ -48,7 +54,8 @@ impl Letters {
     pub fn into_bytes(self) -> InlineBytes
         ensures { result ≡ self }
     {
-        self.bytes
+        let Letters { bytes } = self;
+        bytes
     }
 
     /// The letters, copied.
@@ -117,7 +124,6 @@ impl Kind {
 }
 
 /// A token of a text.
-#[derive(Drop)]
 pub struct Token {
     pub kind: Kind,
     /// The place of its first byte, counted from 0.
@@ -126,6 +132,18 @@ pub struct Token {
     pub end: u32,
     /// Whether nothing was skipped between it and the token before. The first token isn't glued.
     pub glued: bool,
+}
+
+// A derived drop would be proved anew in each crate that lets tokens go. This one is proved here.
+impl Drop for Token {
+    fn drop(self) {
+        let Token {
+            kind: _,
+            start: _,
+            end: _,
+            glued: _,
+        } = self;
+    }
 }
 
 impl Token {

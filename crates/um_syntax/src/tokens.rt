@@ -16,9 +16,15 @@ const BLOCK: usize = 256;
 const MOST_BLOCKS: usize = 4_294_967_296;
 
 /// A list of tokens.
-#[derive(Drop)]
 pub struct Tokens {
     items: Vec<Token>,
+}
+
+// A derived drop would be proved anew in each crate that lets tokens go. This one is proved here.
+impl Drop for Tokens {
+    fn drop(self) {
+        let Tokens { items: _ } = self;
+    }
 }
 
 impl Model for Tokens {
@@ -42,7 +48,8 @@ impl Tokens {
     pub fn into_vec(self) -> Vec<Token>
         ensures { result.items ≡ self }
     {
-        self.items
+        let Tokens { items } = self;
+        items
     }
 
     /// The tokens, in the order of the text.

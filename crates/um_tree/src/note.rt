@@ -1,10 +1,11 @@
 // Type notes: types as they are written, in which a unit may be left open.
+//
+// A derived drop would be proved anew in each crate that drops the type. The drops of these types are proved here.
 use um_units::Unit;
 
 /// A unit as it is written in a note, or the hole `_`.
 ///
 /// In a function's notes variable k is the function's k-th named variable. In a literal the written unit is closed.
-#[derive(Drop)]
 pub enum UnitNote {
     /// Any unit.
     Hole,
@@ -12,14 +13,27 @@ pub enum UnitNote {
     Written(Unit),
 }
 
+impl Drop for UnitNote {
+    fn drop(self) {
+        match self {
+            UnitNote::Hole => {}
+            UnitNote::Written(_) => {}
+        }
+    }
+}
+
 /// Some unit notes, in order.
-#[derive(Drop)]
 pub struct UnitNotes {
     pub items: Vec<UnitNote>,
 }
 
+impl Drop for UnitNotes {
+    fn drop(self) {
+        let UnitNotes { items: _ } = self;
+    }
+}
+
 /// A type as it is written.
-#[derive(Drop)]
 pub enum Note {
     /// `bool`
     Bool,
@@ -31,8 +45,24 @@ pub enum Note {
     Rec(u32, UnitNotes),
 }
 
+impl Drop for Note {
+    fn drop(self) {
+        match self {
+            Note::Bool => {}
+            Note::Num(_) => {}
+            Note::List(_) => {}
+            Note::Rec(_, _) => {}
+        }
+    }
+}
+
 /// Some notes, in order.
-#[derive(Drop)]
 pub struct Notes {
     pub items: Vec<Note>,
+}
+
+impl Drop for Notes {
+    fn drop(self) {
+        let Notes { items: _ } = self;
+    }
 }

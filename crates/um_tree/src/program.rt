@@ -1,22 +1,35 @@
 // Programs, and the schemes of their functions.
+//
+// A derived drop would be proved anew in each crate that drops the type. The drops of these types are proved here.
+ghost use Rattle.std.specs.Prelude.{◌≡◌};
+
 use crate::{Expr, Name, Names, Note, Notes, Ty, Types};
 
 /// A field of a record.
-#[derive(Drop)]
 pub struct FieldDecl {
     pub name: Name,
     /// Its type, in which variable k is the record's k-th unit parameter
     pub ty: Ty,
 }
 
+impl Drop for FieldDecl {
+    fn drop(self) {
+        let FieldDecl { name: _, ty: _ } = self;
+    }
+}
+
 /// Some fields, in order.
-#[derive(Drop)]
 pub struct FieldDecls {
     pub items: Vec<FieldDecl>,
 }
 
+impl Drop for FieldDecls {
+    fn drop(self) {
+        let FieldDecls { items: _ } = self;
+    }
+}
+
 /// A declared record.
-#[derive(Drop)]
 pub struct Record {
     pub name: Name,
     /// The byte offset of its name
@@ -26,14 +39,29 @@ pub struct Record {
     pub fields: FieldDecls,
 }
 
+impl Drop for Record {
+    fn drop(self) {
+        let Record {
+            name: _,
+            at: _,
+            units: _,
+            fields: _,
+        } = self;
+    }
+}
+
 /// Some records, in order.
-#[derive(Drop)]
 pub struct Records {
     pub items: Vec<Record>,
 }
 
+impl Drop for Records {
+    fn drop(self) {
+        let Records { items: _ } = self;
+    }
+}
+
 /// A declared function.
-#[derive(Drop)]
 pub struct Function {
     pub name: Name,
     /// The byte offset of its name
@@ -50,18 +78,47 @@ pub struct Function {
     pub body: Expr,
 }
 
+impl Drop for Function {
+    fn drop(self) {
+        let Function {
+            name: _,
+            at: _,
+            recursive: _,
+            units: _,
+            params: _,
+            named: _,
+            result: _,
+            body: _,
+        } = self;
+    }
+}
+
 /// Some functions, in order.
-#[derive(Drop)]
 pub struct Functions {
     pub items: Vec<Function>,
 }
 
+impl Drop for Functions {
+    fn drop(self) {
+        let Functions { items: _ } = self;
+    }
+}
+
 /// A resolved program: its base units, its records and its functions, each in order of declaration.
-#[derive(Drop)]
 pub struct Program {
     pub bases: Names,
     pub records: Records,
     pub functions: Functions,
+}
+
+impl Drop for Program {
+    fn drop(self) {
+        let Program {
+            bases: _,
+            records: _,
+            functions: _,
+        } = self;
+    }
 }
 
 impl Program {
@@ -72,15 +129,43 @@ impl Program {
 }
 
 /// A scheme of a function: its types hold for all units in place of the variables below `vars`.
-#[derive(Drop)]
 pub struct Scheme {
     pub params: Types,
     pub result: Ty,
     pub vars: u32,
 }
 
+impl Scheme {
+    /// The type of its result.
+    pub fn into_result(self) -> Ty
+        ensures { result ≡ self.result }
+    {
+        let Scheme {
+            params: _,
+            result,
+            vars: _,
+        } = self;
+        result
+    }
+}
+
+impl Drop for Scheme {
+    fn drop(self) {
+        let Scheme {
+            params: _,
+            result: _,
+            vars: _,
+        } = self;
+    }
+}
+
 /// Some schemes, in order.
-#[derive(Drop)]
 pub struct Schemes {
     pub items: Vec<Scheme>,
+}
+
+impl Drop for Schemes {
+    fn drop(self) {
+        let Schemes { items: _ } = self;
+    }
 }

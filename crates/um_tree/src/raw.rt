@@ -1,6 +1,8 @@
 // The raw tree: what the grammar reads, before its names are looked up.
 //
 // Places are byte offsets in the text. Brackets leave a node here, so that a text can be laid out as it was written.
+//
+// A derived drop would be proved anew in each crate that drops the type. The drops of these types are proved here.
 ghost use Rattle.std.specs.Prelude.{◌≡◌};
 
 use crate::{Arith, Name, Sign};
@@ -29,7 +31,6 @@ pub enum RawUnit {
     Bracket(u32, Box<RawUnit>),
 }
 
-// A derived drop would be proved anew in each crate that lets unit texts go. This one is proved here.
 impl Drop for RawUnit {
     #[cycle(raw_unit)]
     fn drop(self) {
@@ -49,13 +50,18 @@ impl Drop for RawUnit {
 
 /// Some unit texts, in order.
 #[cycle(raw_unit)]
-#[derive(Drop)]
 pub struct RawUnits {
     pub items: Vec<RawUnit>,
 }
 
+impl Drop for RawUnits {
+    #[cycle(raw_unit)]
+    fn drop(self) {
+        let RawUnits { items: _ } = self;
+    }
+}
+
 /// What stands between `<` and `>`.
-#[derive(Drop)]
 pub enum RawNote {
     /// `_`, at its place
     Hole(u32),
@@ -63,10 +69,24 @@ pub enum RawNote {
     Unit(u32, RawUnit),
 }
 
+impl Drop for RawNote {
+    fn drop(self) {
+        match self {
+            RawNote::Hole(_) => {}
+            RawNote::Unit(_, _) => {}
+        }
+    }
+}
+
 /// Some of these, in order.
-#[derive(Drop)]
 pub struct RawNotes {
     pub items: Vec<RawNote>,
+}
+
+impl Drop for RawNotes {
+    fn drop(self) {
+        let RawNotes { items: _ } = self;
+    }
 }
 
 /// A type text.
@@ -83,17 +103,27 @@ pub enum RawType {
 }
 
 /// Some type texts, in order.
-#[derive(Drop)]
 pub struct RawTypes {
     pub items: Vec<RawType>,
 }
 
+impl Drop for RawTypes {
+    fn drop(self) {
+        let RawTypes { items: _ } = self;
+    }
+}
+
 /// A name that is bound, or `_`.
-#[derive(Drop)]
 pub struct Binder {
     pub at: u32,
     /// The name; nothing for `_`
     pub name: Option<Name>,
+}
+
+impl Drop for Binder {
+    fn drop(self) {
+        let Binder { at: _, name: _ } = self;
+    }
 }
 
 /// An expression, at its place in the text.
@@ -114,7 +144,6 @@ impl RawExpr {
     }
 }
 
-// A derived drop would be proved anew in each crate that lets expressions go. This one is proved here.
 impl Drop for RawExpr {
     #[cycle(raw_expression)]
     fn drop(self) {
@@ -166,58 +195,108 @@ pub struct RawExprs {
 
 /// A field of a record text, at its name.
 #[cycle(raw_expression)]
-#[derive(Drop)]
 pub struct RawField {
     pub at: u32,
     pub name: Name,
     pub value: RawExpr,
 }
 
+impl Drop for RawField {
+    #[cycle(raw_expression)]
+    fn drop(self) {
+        let RawField {
+            at: _,
+            name: _,
+            value: _,
+        } = self;
+    }
+}
+
 /// Some fields, in order.
 #[cycle(raw_expression)]
-#[derive(Drop)]
 pub struct RawFields {
     pub items: Vec<RawField>,
 }
 
+impl Drop for RawFields {
+    #[cycle(raw_expression)]
+    fn drop(self) {
+        let RawFields { items: _ } = self;
+    }
+}
+
 /// A declared unit parameter, at its quote.
-#[derive(Drop)]
 pub struct RawVar {
     pub at: u32,
     pub name: Name,
 }
 
+impl Drop for RawVar {
+    fn drop(self) {
+        let RawVar { at: _, name: _ } = self;
+    }
+}
+
 /// Some unit parameters, in order.
-#[derive(Drop)]
 pub struct RawVars {
     pub items: Vec<RawVar>,
 }
 
+impl Drop for RawVars {
+    fn drop(self) {
+        let RawVars { items: _ } = self;
+    }
+}
+
 /// A declared field, at its name.
-#[derive(Drop)]
 pub struct RawFieldDecl {
     pub at: u32,
     pub name: Name,
     pub ty: RawType,
 }
 
+impl Drop for RawFieldDecl {
+    fn drop(self) {
+        let RawFieldDecl {
+            at: _,
+            name: _,
+            ty: _,
+        } = self;
+    }
+}
+
 /// Some declared fields, in order.
-#[derive(Drop)]
 pub struct RawFieldDecls {
     pub items: Vec<RawFieldDecl>,
 }
 
+impl Drop for RawFieldDecls {
+    fn drop(self) {
+        let RawFieldDecls { items: _ } = self;
+    }
+}
+
 /// A declared parameter.
-#[derive(Drop)]
 pub struct RawParam {
     pub binder: Binder,
     pub ty: RawType,
 }
 
+impl Drop for RawParam {
+    fn drop(self) {
+        let RawParam { binder: _, ty: _ } = self;
+    }
+}
+
 /// Some parameters, in order.
-#[derive(Drop)]
 pub struct RawParams {
     pub items: Vec<RawParam>,
+}
+
+impl Drop for RawParams {
+    fn drop(self) {
+        let RawParams { items: _ } = self;
+    }
 }
 
 /// A declared function, at its name.

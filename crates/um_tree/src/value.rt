@@ -1,4 +1,6 @@
 // Values, inputs and outcomes.
+//
+// A derived drop would be proved anew in each crate that drops the type. The drops of these types are proved here.
 ghost use Rattle.std.specs.Prelude.{◌≡◌, IfOk, map};
 ghost use Rattle.um_tree.specs.ValueTree.{value_tree, value_trees, input_tree, input_trees};
 ghost use Rattle.um_tree.specs.ValueTree.{without_units, without_units_each};
@@ -18,7 +20,6 @@ pub enum Value {
     Rec(u32, Values),
 }
 
-// A derived drop would be proved anew in each crate that lets values go. This one is proved here.
 impl Drop for Value {
     #[cycle(value)]
     fn drop(self) {
@@ -33,9 +34,15 @@ impl Drop for Value {
 
 /// Some values, in order.
 #[cycle(value)]
-#[derive(Drop)]
 pub struct Values {
     pub items: Vec<Value>,
+}
+
+impl Drop for Values {
+    #[cycle(value)]
+    fn drop(self) {
+        let Values { items: _ } = self;
+    }
 }
 
 /// An argument as it is written: a value whose numbers carry their units.
@@ -47,7 +54,6 @@ pub enum Input {
     Rec(u32, Inputs),
 }
 
-// A derived drop would be proved anew in each crate that lets inputs go. This one is proved here.
 impl Drop for Input {
     #[cycle(input)]
     fn drop(self) {
@@ -62,9 +68,15 @@ impl Drop for Input {
 
 /// Some inputs, in order.
 #[cycle(input)]
-#[derive(Drop)]
 pub struct Inputs {
     pub items: Vec<Input>,
+}
+
+impl Drop for Inputs {
+    #[cycle(input)]
+    fn drop(self) {
+        let Inputs { items: _ } = self;
+    }
 }
 
 /// How a call ends.

@@ -33,7 +33,7 @@ loop-i-preserved c =
     let below : i < length now = omega (arith, inside, many) in
     let both : p ∷ drop (i + 1) order ≡ get_or order i p ∷ drop (i + 1) order = sym (drop_more order i none inside) ∙ drop_more order i p inside in
     let is : p ≡ get_or order i p = cc both in
-    let items : c.loop-i.types.items ≡ front ++ t ∷ [] = c.in-Some.ensures.items in
+    let items : c.loop-i.types.items.items ≡ front ++ t ∷ [] = c.in-Some.ensures.items in
     let fewer : length front ≡ heads + i = omega (arith, count, ap length items, length-append front (t ∷ [])) in
     let whole : front ++ t ∷ drop (heads + j) ts ≡ ts = sym (append_assoc front (t ∷ []) (drop (heads + j) ts)) ∙ ap (λ xs. xs ++ drop (heads + j) ts) (sym items) ∙ inv.left in
     let these : drop (heads + i) ts ≡ t ∷ drop (heads + j) ts = (λ k. drop (sym fewer k) (sym whole k)) ∙ drop-append_seam front (t ∷ drop (heads + j) ts) in
@@ -58,12 +58,3 @@ returns c = λ heads count.
 
 pub loop-i-init : goal.loop-i-init
 loop-i-init c = grind (arith, common_steps)
-
-pub loop-i-preserved-in-Some : goal.loop-i-preserved-in-Some
-loop-i-preserved-in-Some c = grind (arith, common_steps)
-
-pub loop-i-preserved-in-Some-2 : goal.loop-i-preserved-in-Some-2
-loop-i-preserved-in-Some-2 c = grind (arith, common_steps)
-
-pub loop-i-preserved-in-Some-3 : goal.loop-i-preserved-in-Some-3
-loop-i-preserved-in-Some-3 c = grind (arith, common_steps)

@@ -11,7 +11,7 @@ invariant-loop-i l =
     let heads = length ts - length l.order in
     record {
       done : map typed_node (drop l.i l.nodes.items) ≡ retyped (placed_nodes [] (drop l.i l.order)) (map type_tree (drop (heads + l.i) ts));
-      left : l.types.items ++ drop (heads + l.i) ts ≡ ts;
-      count : length l.types.items ≡ heads + l.i;
+      left : l.types.items.items ++ drop (heads + l.i) ts ≡ ts;
+      count : length l.types.items.items ≡ heads + l.i;
       nodes : length l.order ≡ length l.nodes.items;
     }
