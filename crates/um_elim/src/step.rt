@@ -53,46 +53,16 @@ pub fn take_step(
         }
         return Err(ElimStop::NoSolution);
     };
-    let taken = take_known_step(alloc, units, index, r, &step);
-    drop(step);
-    taken
-}
-
-/// This step, which is the one at the pivot of r.
-fn take_known_step(
-    alloc: Global,
-    units: &mut Vec<Unit>,
-    index: &mut Vec<SlotList>,
-    r: &Unit,
-    step: &ElimStep,
-) -> Result<AfterStep, ElimStop>
-    requires indexed { IsIndex units.old.items index.old.items }
-    requires variables { VariablesBelow (length units.old.items) r.now }
-    requires step { IsStepOf r.now step.now }
-    requires fits { IsTrue (fits step.now.by) }
-    ensures outcome { MatchResult result (IsStep units.old.items r.now units.new.items)
-        (StopsStep units.old.items r.now) }
-    ensures slots { length units.new.items ≡ length units.old.items }
-    ensures indexed { OnOk result (IsIndex units.new.items index.new.items) }
-    ensures variables { IfOk result (RemainderBelow (length units.old.items)) }
-{
     if is_single(r, step.variable) {
-        return take_single_step(alloc, units, index, r, step);
+        return take_single_step(alloc, units, index, r, &step);
     }
-    let remainder = unit_after_step(alloc, r, step)?;
+    let remainder = unit_after_step(alloc, r, &step)?;
     if has_other_variable(remainder.terms(), step.variable) {
-        match multiply_holders(alloc, units, index, step.variable, &step.by) {
-            Ok(()) => return Ok(AfterStep::Again(remainder)),
-            Err(stop) => {
-                drop(remainder);
-                return Err(ElimStop::from(stop));
-            }
-        }
+        multiply_holders(alloc, units, index, step.variable, &step.by)?;
+        return Ok(AfterStep::Again(remainder));
     }
-    let unsolvable = has_base_unit(remainder.terms());
-    drop(remainder);
     put_in_holders(alloc, units, index, step.variable, &step.by)?;
-    if unsolvable {
+    if has_base_unit(remainder.terms()) {
         return Err(ElimStop::NoSolution);
     }
     Ok(AfterStep::Ended)

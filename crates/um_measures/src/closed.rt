@@ -112,17 +112,6 @@ pub fn closed_unit(
         (unit_syntax raw.now))) }
 {
     let measures = measures_of(alloc, program, abbreviations)?;
-    let names = NameTable::new(alloc);
-    match resolved_unit(alloc, &measures, &names, raw) {
-        Ok(unit) => {
-            drop(names);
-            drop(measures);
-            Ok(UnitNote::Written(unit))
-        }
-        Err(stop) => {
-            drop(names);
-            drop(measures);
-            Err(stop)
-        }
-    }
+    let unit = resolved_unit(alloc, &measures, &NameTable::new(alloc), raw)?;
+    Ok(UnitNote::Written(unit))
 }

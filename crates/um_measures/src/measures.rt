@@ -77,51 +77,15 @@ impl Measures {
             → short_unit measures x ≡ short_unit (self ++ record { name = name.now; unit = unit } ∷ []) x) }
     {
         if self.names.has(name) {
-            drop(unit);
             return Ok(self);
         }
-        let Measures { mut names, units } = self;
-        match names.add(alloc, name) {
-            Ok(()) => {}
-            Err(error) => {
-                drop(names);
-                drop(units);
-                drop(unit);
-                return Err(error);
-            }
-        }
-        match with_last(alloc, units, name, unit) {
-            Ok(units) => Ok(Measures { names, units }),
-            Err(error) => {
-                drop(names);
-                Err(error)
-            }
-        }
-    }
-}
-
-// These measures and one more.
-#[inline(always)]
-fn with_last(
-    alloc: Global,
-    mut units: Vec<Abbreviation>,
-    name: &[u8],
-    unit: Unit,
-) -> Result<Vec<Abbreviation>, AllocError>
-    ensures { IfOk result (λ more. more.items ≡ units.items ++ record { name = name.now; unit = unit } ∷ []) }
-{
-    match Name::from_slice(alloc, name) {
-        Ok(name) => match units.push(Abbreviation { name, unit }) {
-            Ok(()) => Ok(units),
-            Err(error) => {
-                drop(units);
-                Err(AllocError::from(error))
-            }
-        },
-        Err(error) => {
-            drop(units);
-            drop(unit);
-            Err(error)
-        }
+        let Measures {
+            mut names,
+            mut units,
+        } = self;
+        names.add(alloc, name)?;
+        let name = Name::from_slice(alloc, name)?;
+        units.push(Abbreviation { name, unit })?;
+        Ok(Measures { names, units })
     }
 }

@@ -162,6 +162,7 @@ fn in_params(names: &mut NameTable, alloc: Global, params: &[RawParam]) -> Resul
 /// The named unit variables of a function's head, in the order of their numbers: its unit parameters, and after them
 /// each other one that its parameters and its result name, once, by its first occurrence. They are all variables of a
 /// function whose body names none. Fails for want of memory alone, or if there are 2^32 - 1 names.
+#[tactic(auto, using(crate::proofs::Occurrences::both_occur))]
 pub fn head_variables(
     alloc: Global,
     unit_params: NameTable,
@@ -170,25 +171,11 @@ pub fn head_variables(
     ensures { IfOk result (λ names. names ≡ head_variables unit_params (whole_function_syntax function.now)) }
 {
     let mut names = unit_params;
-    match in_head(&mut names, alloc, function) {
-        Ok(()) => Ok(names),
-        Err(error) => {
-            drop(names);
-            Err(error)
-        }
+    in_params(&mut names, alloc, &function.params.items)?;
+    if let Some(ty) = &function.result {
+        add_type_variables(&mut names, alloc, ty)?;
     }
-}
-
-// Adds the variables of the notes of its parameters and of its result.
-#[tactic(auto, using(crate::proofs::Occurrences::both_occur))]
-fn in_head(names: &mut NameTable, alloc: Global, function: &RawFunction) -> Result<(), AllocError>
-    ensures { OnOk result (names.new ≡ head_variables names.old (whole_function_syntax function.now)) }
-{
-    in_params(names, alloc, &function.params.items)?;
-    match &function.result {
-        Some(ty) => add_type_variables(names, alloc, ty),
-        None => Ok(()),
-    }
+    Ok(names)
 }
 
 /// The named unit variables of a function, in the order of their numbers: its unit parameters, and after them each

@@ -38,23 +38,20 @@ resolved_arm t b scope x y e =
     and_then (unless_taken (same_binding x.name y.name) y.at) (λ _.
     resolved_in t b (scope ++ x.name ∷ y.name ∷ []) e)
 
--- the function of this text that has this head and this body
-abbrev pub function_with : FunctionSyntax → Head → ExprTree → FunctionTree
-function_with f h body = record {
-  name = f.name;
-  at = f.at;
-  recursive = f.recursive;
-  units = h.units;
-  params = map note_tree h.params.items;
-  named = h.named;
-  result = result_tree h.result;
-  body = body;
-}
-
 -- the function that has this head, with its body
 abbrev pub with_body : Tables → FunctionSyntax → Head → Found FunctionTree
 with_body t f h =
-    and_then (resolved_in t h.known h.scope f.body) (λ body. Ok (function_with f h body))
+    and_then (resolved_in t h.known h.scope f.body) (λ body.
+    Ok (record {
+      name = f.name;
+      at = f.at;
+      recursive = f.recursive;
+      units = h.units;
+      params = map note_tree h.params.items;
+      named = h.named;
+      result = result_tree h.result;
+      body = body;
+    }))
 
 -- what is known after the function that has this head
 abbrev pub with_whole : Tables → FunctionSyntax → Head → Found Known

@@ -1,17 +1,13 @@
 //! Declarations, one at a time.
 
-ghost use Rattle.std.specs.Prelude.{◌≡◌, [], false, Ok, IfOk, IfErr, OnOk, map, length};
-ghost use Rattle.um_tree.specs.ExprTree.{expr_tree};
-ghost use Rattle.um_tree.specs.ProgramTree.{result_tree, field_tree};
+ghost use Rattle.std.specs.Prelude.{◌≡◌, [], false, Ok, IfOk, IfErr, OnOk, map};
 ghost use Rattle.um_tree.specs.RawTree.{var_syntax, field_decl_syntax, whole_function_syntax, decl_syntax, base_syntax};
-ghost use Rattle.um_tree.specs.RawTree.{short_syntax, record_decl_syntax, function_syntax};
-ghost use Rattle.um_tree.specs.RawTree.{unit_syntax, expr_syntax, written_type};
-ghost use Rattle.um_measures.specs.Known.{is_taken, is_among, function_names, record_names};
+ghost use Rattle.um_tree.specs.RawTree.{short_syntax, record_decl_syntax, function_syntax, unit_syntax, expr_syntax};
+ghost use Rattle.um_measures.specs.Known.{is_taken, is_among, function_names};
 ghost use Rattle.um_measures.specs.Variables.{expr_variables, named_variables};
 ghost use Rattle.um_names.specs.Parts.{itself};
-ghost use Rattle.um_names.specs.Resolution.{resolved_function, resolved_decl, resolved_result};
-ghost use Rattle.um_names.specs.Resolution.{with_function, with_record};
-ghost use Rattle.um_names.specs.Bodies.{with_body, with_whole, function_with};
+ghost use Rattle.um_names.specs.Resolution.{resolved_function, resolved_decl};
+ghost use Rattle.um_names.specs.Bodies.{with_body, with_whole};
 ghost use Rattle.um_measures.specs.Stops.{IsFirst};
 ghost use Rattle.um_names.specs.Tables.{AreTables, known_of, own_callable};
 
@@ -31,8 +27,8 @@ use um_measures::{
     NameStop, NameTable, Scope, function_names, head_variables, named_variables, parameters_digest,
 };
 use um_tree::{
-    Expr, FieldDecl, FieldDecls, Function, Name, Note, Notes, RawDecl, RawFieldDecl, RawFunction,
-    RawUnit, RawVar, Record,
+    FieldDecls, Function, Name, Note, Notes, RawDecl, RawFieldDecl, RawFunction, RawUnit, RawVar,
+    Record,
 };
 
 /// Whether a measure or a record has this name.
@@ -63,57 +59,15 @@ fn declare_record(
         return Err(NameStop::Twice { at });
     }
     let mut variables = NameTable::with_digest(alloc, parameters_digest(vars));
-    match add_unit_parameters(alloc, &mut variables, vars) {
-        Ok(()) => {}
-        Err(stop) => {
-            drop(variables);
-            return Err(stop);
-        }
-    }
-    match field_decls(alloc, tables, &variables, fields) {
-        Ok(items) => {
-            let units = variables.count();
-            drop(variables);
-            Ok(add_declared(alloc, tables, at, name, units, items)?)
-        }
-        Err(stop) => {
-            drop(variables);
-            Err(stop)
-        }
-    }
-}
-
-/// Adds a record whose fields are resolved.
-fn add_declared(
-    alloc: Global,
-    tables: &mut Tables,
-    at: u32,
-    name: &Name,
-    units: u32,
-    items: Vec<FieldDecl>,
-) -> Result<(), AllocError>
-    requires tables { AreTables tables.old }
-    requires new { is_among (record_names (known_of tables.old).program.records) name.now ≡ false }
-    ensures tables { OnOk result (AreTables tables.new) }
-    ensures known { OnOk result (known_of tables.new ≡ with_record (known_of tables.old)
-        (record { name = name.now; at = at; units = units; fields = map field_tree items.items })) }
-{
-    match copied(alloc, name) {
-        Ok(name) => add_record(
-            alloc,
-            tables,
-            Record {
-                name,
-                at,
-                units,
-                fields: FieldDecls { items },
-            },
-        ),
-        Err(error) => {
-            drop(items);
-            Err(error)
-        }
-    }
+    add_unit_parameters(alloc, &mut variables, vars)?;
+    let items = field_decls(alloc, tables, &variables, fields)?;
+    let record = Record {
+        name: copied(alloc, name)?,
+        at,
+        units: variables.count(),
+        fields: FieldDecls { items },
+    };
+    Ok(add_record(alloc, tables, record)?)
 }
 
 /// The function itself, where it may be called in its body.
@@ -172,144 +126,21 @@ fn head_of(alloc: Global, tables: &Tables, raw: &RawFunction) -> Result<Head, Na
     }
     let names = function_names(raw);
     let mut unit_params = NameTable::with_digest(alloc, names.digest);
-    match add_unit_parameters(alloc, &mut unit_params, &raw.units.items) {
-        Ok(()) => {}
-        Err(stop) => {
-            drop(unit_params);
-            return Err(stop);
-        }
-    }
+    add_unit_parameters(alloc, &mut unit_params, &raw.units.items)?;
     let units = unit_params.count();
     let variables = variables_of(alloc, unit_params, raw, names.in_body)?;
-    match params(alloc, tables, &variables, &raw.params.items) {
-        Ok(parameters) => Ok(head_with(alloc, tables, raw, units, variables, parameters)?),
-        Err(stop) => {
-            drop(variables);
-            Err(stop)
-        }
-    }
-}
-
-/// The head of a function that has these parameters.
-#[inline(always)]
-fn head_with(
-    alloc: Global,
-    tables: &Tables,
-    raw: &RawFunction,
-    units: u32,
-    variables: NameTable,
-    parameters: Parameters,
-) -> Result<Head, NameStop>
-    requires { AreTables tables.now }
-    ensures head { IfOk result (λ h. h ≡ record {
-      units = units;
-      params = parameters.notes;
-      named = h.named;
-      result = h.result;
-      scope = parameters.scope;
-      known = record { variables = variables; own = h.known.own };
-    }) }
-    ensures named { IfOk result (λ h. h.named ≡ length variables) }
-    ensures own { IfOk result (λ h. own_callable h.known.own ≡ itself (whole_function_syntax raw.now)) }
-    ensures exact { IfOk result (λ h. resolved_result (known_of tables.now) variables (written_type raw.now.result)
-        ≡ Ok (result_tree h.result)) }
-    ensures faults { IfErr result (IsFirst (resolved_result (known_of tables.now) variables
-        (written_type raw.now.result))) }
-{
-    match result_note(alloc, tables, &variables, &raw.result) {
-        Ok(result) => {
-            let named = variables.count();
-            match itself(alloc, raw) {
-                Ok(own) => {
-                    let Parameters { notes, scope } = parameters;
-                    Ok(Head {
-                        units,
-                        params: notes,
-                        named,
-                        result,
-                        scope,
-                        known: Body { variables, own },
-                    })
-                }
-                Err(error) => {
-                    drop(variables);
-                    drop(parameters);
-                    drop(result);
-                    Err(NameStop::from(error))
-                }
-            }
-        }
-        Err(stop) => {
-            drop(variables);
-            drop(parameters);
-            Err(stop)
-        }
-    }
-}
-
-/// The function that has this head, this name and this body.
-#[inline(always)]
-fn function_of(head: Head, name: Name, at: u32, recursive: bool, body: Expr) -> Function
-    ensures { result ≡ record {
-      name = name;
-      at = at;
-      recursive = recursive;
-      units = head.units;
-      params = record { items = head.params };
-      named = head.named;
-      result = head.result;
-      body = body;
-    } }
-{
-    let Head {
+    let Parameters { notes, scope } = params(alloc, tables, &variables, &raw.params.items)?;
+    let result = result_note(alloc, tables, &variables, &raw.result)?;
+    let named = variables.count();
+    let own = itself(alloc, raw)?;
+    Ok(Head {
         units,
-        params,
+        params: notes,
         named,
         result,
         scope,
-        known,
-    } = head;
-    drop(scope);
-    drop(known);
-    Function {
-        name,
-        at,
-        recursive,
-        units,
-        params: Notes { items: params },
-        named,
-        result,
-        body,
-    }
-}
-
-/// Adds a function whose body is resolved.
-#[inline(always)]
-fn add_resolved(
-    alloc: Global,
-    tables: &mut Tables,
-    raw: &RawFunction,
-    head: Head,
-    body: Expr,
-) -> Result<(), AllocError>
-    requires tables { AreTables tables.old }
-    requires new { is_among (function_names (known_of tables.old).program.functions) raw.now.name ≡ false }
-    ensures tables { OnOk result (AreTables tables.new) }
-    ensures known { OnOk result (known_of tables.new ≡ with_function (known_of tables.old)
-        (function_with (whole_function_syntax raw.now) head (expr_tree body))) }
-{
-    match copied(alloc, &raw.name) {
-        Ok(name) => add_function(
-            alloc,
-            tables,
-            function_of(head, name, raw.at, raw.recursive, body),
-        ),
-        Err(error) => {
-            drop(head);
-            drop(body);
-            Err(error)
-        }
-    }
+        known: Body { variables, own },
+    })
 }
 
 /// Declares a function: its name, its unit parameters, its parameters, its result, its body.
@@ -327,13 +158,18 @@ fn declare_function(alloc: Global, tables: &mut Tables, raw: &RawFunction) -> Re
         tables,
         body: &head.known,
     };
-    match expr(&lookup, &mut head.scope, &raw.body) {
-        Ok(body) => Ok(add_resolved(alloc, tables, raw, head, body)?),
-        Err(stop) => {
-            drop(head);
-            Err(stop)
-        }
-    }
+    let body = expr(&lookup, &mut head.scope, &raw.body)?;
+    let function = Function {
+        name: copied(alloc, &raw.name)?,
+        at: raw.at,
+        recursive: raw.recursive,
+        units: head.units,
+        params: Notes { items: head.params },
+        named: head.named,
+        result: head.result,
+        body,
+    };
+    Ok(add_function(alloc, tables, function)?)
 }
 
 /// The same of a function that is handed over. Its body is let go while it is resolved.
@@ -388,14 +224,18 @@ fn declare_whole(
         tables,
         body: &head.known,
     };
-    match body(&lookup, &mut head.scope, text) {
-        Ok(body) => Ok(add_function(alloc, tables, function_of(head, name, at, recursive, body))?),
-        Err(stop) => {
-            drop(name);
-            drop(head);
-            Err(stop)
-        }
-    }
+    let body = body(&lookup, &mut head.scope, text)?;
+    let function = Function {
+        name,
+        at,
+        recursive,
+        units: head.units,
+        params: Notes { items: head.params },
+        named: head.named,
+        result: head.result,
+        body,
+    };
+    Ok(add_function(alloc, tables, function)?)
 }
 
 /// Declares a base unit.

@@ -1,6 +1,6 @@
 //! The fields of records.
 
-ghost use Rattle.std.specs.Prelude.{◌≡◌, [], Ok, IfOk, OnOk, IfErr, map};
+ghost use Rattle.std.specs.Prelude.{◌≡◌, [], Ok, IfOk, IfErr, map};
 ghost use Rattle.um_tree.specs.ProgramTree.{field_tree};
 ghost use Rattle.um_tree.specs.RawTree.{field_decl_syntax};
 ghost use Rattle.um_names.specs.Resolution.{resolved_field_decls};
@@ -56,39 +56,9 @@ pub fn field_decls(
 {
     let mut own = NameTable::with_digest(alloc, fields_digest(raw));
     let mut fields = Vec::new(alloc);
-    match add_field_decls(alloc, tables, variables, &mut own, &mut fields, raw) {
-        Ok(()) => {
-            drop(own);
-            Ok(fields)
-        }
-        Err(stop) => {
-            drop(own);
-            drop(fields);
-            Err(stop)
-        }
-    }
-}
-
-/// Adds the fields of a record and their names, one after another.
-fn add_field_decls(
-    alloc: Global,
-    tables: &Tables,
-    variables: &NameTable,
-    own: &mut NameTable,
-    fields: &mut Vec<FieldDecl>,
-    raw: &[RawFieldDecl],
-) -> Result<(), NameStop>
-    requires tables { AreTables tables.now }
-    requires own { own.old ≡ [] }
-    requires fields { fields.old.items ≡ [] }
-    ensures exact { OnOk result (resolved_field_decls (known_of tables.now) variables.now []
-        (map field_decl_syntax raw.now) ≡ Ok (map field_tree fields.new.items)) }
-    ensures faults { IfErr result (IsFirst (resolved_field_decls (known_of tables.now) variables.now []
-        (map field_decl_syntax raw.now))) }
-{
     for text in raw {
-        fields.push(field_decl(alloc, tables, variables, own, text)?)?;
+        fields.push(field_decl(alloc, tables, variables, &own, text)?)?;
         own.add(alloc, text.name.as_slice())?;
     }
-    Ok(())
+    Ok(fields)
 }

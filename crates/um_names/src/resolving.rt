@@ -85,29 +85,17 @@ fn known_parts(tables: Tables) -> Resolved
     ensures program { program_tree result.program ≡ (known_of tables).program }
     ensures abbreviations { result.abbreviations ≡ (known_of tables).shorts }
 {
-    let Tables {
-        measures,
-        bases,
-        shorts,
-        record_names,
-        records,
-        fields,
-        field_numbers,
-        function_names,
-        functions,
-    } = tables;
-    drop(measures);
-    drop(record_names);
-    drop(fields);
-    drop(field_numbers);
-    drop(function_names);
     Resolved {
         program: Program {
-            bases: Names::from_vec(bases),
-            records: Records { items: records },
-            functions: Functions { items: functions },
+            bases: Names::from_vec(tables.bases),
+            records: Records {
+                items: tables.records,
+            },
+            functions: Functions {
+                items: tables.functions,
+            },
         },
-        abbreviations: Abbreviations::from_vec(shorts),
+        abbreviations: Abbreviations::from_vec(tables.shorts),
     }
 }
 
@@ -175,14 +163,7 @@ pub fn abbreviations(
     ensures exact { IfOk result (λ shorts. resolved_abbreviations (program_syntax raw.now) ≡ Ok shorts) }
 {
     match declarations(alloc, &raw.items) {
-        Ok(tables) => {
-            let Resolved {
-                program,
-                abbreviations,
-            } = known_parts(tables);
-            drop(program);
-            Ok(abbreviations)
-        }
+        Ok(tables) => Ok(Abbreviations::from_vec(tables.shorts)),
         // The tree has a program, so memory alone can be wanting.
         Err(_) => Err(AllocError),
     }

@@ -10,7 +10,7 @@ use crate::equations::equations;
 use std::alloc::Global;
 use um_equal_types::{RowStop, Rows};
 use um_shape::Shaped;
-use um_slots::{Definition, call_of, discard_call};
+use um_slots::{Definition, call_of};
 use um_tree::{Inputs, Schemes};
 
 /// The equations of the call of function `f` on the inputs, over its slots, given schemes of all functions.
@@ -55,13 +55,11 @@ pub fn call_rows(
         result: &None,
         body: &body,
     };
-    let rows = equations(
+    equations(
         alloc,
         &program.records.items,
         &schemes.items,
         number,
         &definition,
-    );
-    discard_call(body);
-    rows
+    )
 }

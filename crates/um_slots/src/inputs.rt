@@ -138,7 +138,6 @@ fn list_expr(
         (note_left_open (map record_tree records.now) (shape_tree shape.now)) (in_order (map expr_tree items.items))) }
 {
     if items.is_empty() {
-        drop(items);
         let note = open_note(alloc, records, shape)?;
         return Ok(Expr {
             at: 0,
@@ -176,32 +175,16 @@ fn input_expr(
         }
         Input::List(items) => {
             let truth = Shape::Bool;
-            match item_exprs(alloc, records, &items.items, item_shape(shape, &truth)) {
-                Ok(items) => {
-                    drop(truth);
-                    list_expr(alloc, records, items, shape)
-                }
-                Err(error) => {
-                    drop(truth);
-                    Err(error)
-                }
-            }
+            let items = item_exprs(alloc, records, &items.items, item_shape(shape, &truth))?;
+            list_expr(alloc, records, items, shape)
         }
         Input::Rec(r, parts) => {
             let shapes = shapes_of(alloc, records, *r)?;
-            match input_exprs(alloc, records, &parts.items, &shapes) {
-                Ok(items) => {
-                    drop(shapes);
-                    Ok(Expr {
-                        at: 0,
-                        node: Node::Rec(*r, Exprs { items }),
-                    })
-                }
-                Err(error) => {
-                    drop(shapes);
-                    Err(error)
-                }
-            }
+            let items = input_exprs(alloc, records, &parts.items, &shapes)?;
+            Ok(Expr {
+                at: 0,
+                node: Node::Rec(*r, Exprs { items }),
+            })
         }
     }
 }
@@ -281,19 +264,6 @@ pub fn call_of(
         (map shape_of_note (map note_tree params.now)) (input_trees inputs.now))) }
 {
     let shapes = param_shapes(alloc, params)?;
-    match exprs_of(alloc, records, inputs, &shapes) {
-        Ok(items) => {
-            drop(shapes);
-            Ok(call_on(f, items))
-        }
-        Err(error) => {
-            drop(shapes);
-            Err(error)
-        }
-    }
-}
-
-/// Gives the memory of such a call back. A crate that calls this has no proof of its own of how the trees are let go.
-pub fn discard_call(call: Expr) {
-    drop(call);
+    let items = exprs_of(alloc, records, inputs, &shapes)?;
+    Ok(call_on(f, items))
 }

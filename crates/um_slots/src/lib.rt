@@ -22,7 +22,7 @@ mod types;
 
 pub use context::{Context, context_of};
 pub use definition::{Definition, Environment};
-pub use inputs::{call_of, discard_call};
+pub use inputs::call_of;
 pub use noted::{note_holes, noted_type, noted_unit, unit_holes};
 pub use numbering::{Numbering, name_units, number_slots};
 pub use slots::Slots;

@@ -16,8 +16,8 @@ use Rattle.um_rows.proofs.ProgramRows.{closed_before, closed_records}
 use Rattle.um_rows.proofs.ProgramCalls.{calls_ok, calls_err, calls_results}
 use Rattle.um_rows.proofs.function_calls.call_rows.Goals as goal
 
-pub equations-rows-requires-clause-schemes : goal.equations-rows-requires-clause-schemes
-equations-rows-requires-clause-schemes c =
+pub equations-requires-clause-schemes : goal.equations-requires-clause-schemes
+equations-requires-clause-schemes c =
     let q = c.program-program.result.now in
     let same = c.program-program.ensures.program in
     let functions = q.functions.items.items in
@@ -28,8 +28,8 @@ equations-rows-requires-clause-schemes c =
     let there = subst (λ m. HaveVariablesBelow m (map scheme_tree schemes)) (sym count) here in
     subst (AreClosedBefore n) (sym c.deref-4.ensures.value) (closed_before n schemes there)
 
-pub equations-rows-requires-clause-records : goal.equations-rows-requires-clause-records
-equations-rows-requires-clause-records c =
+pub equations-requires-clause-records : goal.equations-requires-clause-records
+equations-requires-clause-records c =
     let q = c.program-program.result.now in
     let same = c.program-program.ensures.program in
     subst (All IsClosedRecord) (sym c.deref-3.ensures.value) (closed_records q (subst (λ (x : Program). IsFormed (program_tree x)) (sym same) c.program-program.ensures.formed))
@@ -53,9 +53,9 @@ returns-clause-equations c =
     let body_is : body ≡ call 0 k (input_texts (program_tree q).records (map note_shape (map note_tree f.params.items.items)) inputs) =
     c.in_ok-body.ensures ∙ ap (λ rs. call 0 k (input_texts (map record_tree rs) (map note_shape (map note_tree c.deref-2.result.now)) inputs)) c.deref.ensures.value
     ∙ ap (λ ns. call 0 k (input_texts (program_tree q).records (map note_shape (map note_tree ns)) inputs)) c.deref-2.ensures.value in
-    let answer = subst (λ ss. MatchResult c.equations-rows.result (AreEquations (program_tree q).records (map scheme_tree ss) n (described 0 false 0 [] None body)) (StopsFor (program_tree q).records (map scheme_tree ss) n (described 0 false 0 [] None body))) c.deref-4.ensures.value
-    (subst (λ rs. MatchResult c.equations-rows.result (AreEquations (map record_tree rs) (map scheme_tree c.deref-4.result.now) n (described 0 false 0 [] None body)) (StopsFor (map record_tree rs) (map scheme_tree c.deref-4.result.now) n (described 0 false 0 [] None body))) c.deref-3.ensures.value c.equations-rows.ensures) in
-    subst (λ (x : Program). IfOk c.equations-rows.result (AreCallRowsOf (program_tree x) (map scheme_tree schemes) k inputs)) same (calls_ok q formed (map scheme_tree schemes) k f there inputs n count body body_is c.equations-rows.result answer)
+    let answer = subst (λ ss. MatchResult c.equations.result (AreEquations (program_tree q).records (map scheme_tree ss) n (described 0 false 0 [] None body)) (StopsFor (program_tree q).records (map scheme_tree ss) n (described 0 false 0 [] None body))) c.deref-4.ensures.value
+    (subst (λ rs. MatchResult c.equations.result (AreEquations (map record_tree rs) (map scheme_tree c.deref-4.result.now) n (described 0 false 0 [] None body)) (StopsFor (map record_tree rs) (map scheme_tree c.deref-4.result.now) n (described 0 false 0 [] None body))) c.deref-3.ensures.value c.equations.ensures) in
+    subst (λ (x : Program). IfOk c.equations.result (AreCallRowsOf (program_tree x) (map scheme_tree schemes) k inputs)) same (calls_ok q formed (map scheme_tree schemes) k f there inputs n count body body_is c.equations.result answer)
 
 pub returns-clause-stops : goal.returns-clause-stops
 returns-clause-stops c =
@@ -76,9 +76,9 @@ returns-clause-stops c =
     let body_is : body ≡ call 0 k (input_texts (program_tree q).records (map note_shape (map note_tree f.params.items.items)) inputs) =
     c.in_ok-body.ensures ∙ ap (λ rs. call 0 k (input_texts (map record_tree rs) (map note_shape (map note_tree c.deref-2.result.now)) inputs)) c.deref.ensures.value
     ∙ ap (λ ns. call 0 k (input_texts (program_tree q).records (map note_shape (map note_tree ns)) inputs)) c.deref-2.ensures.value in
-    let answer = subst (λ ss. MatchResult c.equations-rows.result (AreEquations (program_tree q).records (map scheme_tree ss) n (described 0 false 0 [] None body)) (StopsFor (program_tree q).records (map scheme_tree ss) n (described 0 false 0 [] None body))) c.deref-4.ensures.value
-    (subst (λ rs. MatchResult c.equations-rows.result (AreEquations (map record_tree rs) (map scheme_tree c.deref-4.result.now) n (described 0 false 0 [] None body)) (StopsFor (map record_tree rs) (map scheme_tree c.deref-4.result.now) n (described 0 false 0 [] None body))) c.deref-3.ensures.value c.equations-rows.ensures) in
-    subst (λ (x : Program). IfErr c.equations-rows.result (CallRowsStopFor (program_tree x) (map scheme_tree schemes) k inputs)) same (calls_err q formed (map scheme_tree schemes) k f there inputs n count body body_is c.equations-rows.result answer)
+    let answer = subst (λ ss. MatchResult c.equations.result (AreEquations (program_tree q).records (map scheme_tree ss) n (described 0 false 0 [] None body)) (StopsFor (program_tree q).records (map scheme_tree ss) n (described 0 false 0 [] None body))) c.deref-4.ensures.value
+    (subst (λ rs. MatchResult c.equations.result (AreEquations (map record_tree rs) (map scheme_tree c.deref-4.result.now) n (described 0 false 0 [] None body)) (StopsFor (map record_tree rs) (map scheme_tree c.deref-4.result.now) n (described 0 false 0 [] None body))) c.deref-3.ensures.value c.equations.ensures) in
+    subst (λ (x : Program). IfErr c.equations.result (CallRowsStopFor (program_tree x) (map scheme_tree schemes) k inputs)) same (calls_err q formed (map scheme_tree schemes) k f there inputs n count body body_is c.equations.result answer)
 
 pub returns-clause-results : goal.returns-clause-results
 returns-clause-results c =
@@ -99,6 +99,6 @@ returns-clause-results c =
     let body_is : body ≡ call 0 k (input_texts (program_tree q).records (map note_shape (map note_tree f.params.items.items)) inputs) =
     c.in_ok-body.ensures ∙ ap (λ rs. call 0 k (input_texts (map record_tree rs) (map note_shape (map note_tree c.deref-2.result.now)) inputs)) c.deref.ensures.value
     ∙ ap (λ ns. call 0 k (input_texts (program_tree q).records (map note_shape (map note_tree ns)) inputs)) c.deref-2.ensures.value in
-    let answer = subst (λ ss. MatchResult c.equations-rows.result (AreEquations (program_tree q).records (map scheme_tree ss) n (described 0 false 0 [] None body)) (StopsFor (program_tree q).records (map scheme_tree ss) n (described 0 false 0 [] None body))) c.deref-4.ensures.value
-    (subst (λ rs. MatchResult c.equations-rows.result (AreEquations (map record_tree rs) (map scheme_tree c.deref-4.result.now) n (described 0 false 0 [] None body)) (StopsFor (map record_tree rs) (map scheme_tree c.deref-4.result.now) n (described 0 false 0 [] None body))) c.deref-3.ensures.value c.equations-rows.ensures) in
-    subst (λ (x : Program). IfOk c.equations-rows.result (ResultsAreSolutionsOf (program_tree x) (map scheme_tree schemes) k inputs)) same (calls_results q formed (map scheme_tree schemes) k f there inputs n count body body_is (subst (λ (x : Program). AreFormedInputs (length (program_tree x).bases) inputs) (sym same) c.requires.inputs) c.equations-rows.result answer)
+    let answer = subst (λ ss. MatchResult c.equations.result (AreEquations (program_tree q).records (map scheme_tree ss) n (described 0 false 0 [] None body)) (StopsFor (program_tree q).records (map scheme_tree ss) n (described 0 false 0 [] None body))) c.deref-4.ensures.value
+    (subst (λ rs. MatchResult c.equations.result (AreEquations (map record_tree rs) (map scheme_tree c.deref-4.result.now) n (described 0 false 0 [] None body)) (StopsFor (map record_tree rs) (map scheme_tree c.deref-4.result.now) n (described 0 false 0 [] None body))) c.deref-3.ensures.value c.equations.ensures) in
+    subst (λ (x : Program). IfOk c.equations.result (ResultsAreSolutionsOf (program_tree x) (map scheme_tree schemes) k inputs)) same (calls_results q formed (map scheme_tree schemes) k f there inputs n count body body_is (subst (λ (x : Program). AreFormedInputs (length (program_tree x).bases) inputs) (sym same) c.requires.inputs) c.equations.result answer)

@@ -38,13 +38,13 @@ item_exprs-loop-i-preserved t c =
 pub item_exprs-returns : goal.item_exprs-returns
 item_exprs-returns t c = items_last (map record_tree c.args.records.now) (shape_tree c.args.shape.now) c.args.inputs.now c.loop-i.i c.loop-i.items.items (omega (arith, c.loop-i-test.false)) c.loop-i.invariant
 
-pub input_expr-returns-in-Ok : goal.input_expr-returns-in-Ok
-input_expr-returns-in-Ok t c =
+pub input_expr-returns-in_ok-items-in-List : goal.input_expr-returns-in_ok-items-in-List
+input_expr-returns-in_ok-items-in-List t c =
     let records = map record_tree c.args.records.now in
     let shape = shape_tree c.args.shape.now in
-    let items = in_order (map expr_tree c.in-Ok.items.items) in
+    let items = in_order (map expr_tree c.in_ok-items-in-List.items.items) in
     let inputs = inputs_in_order (map input_tree c.deref.result.now) in
     let seen : input_tree c.args.input.now ≡ list_input inputs = search (rules, the_input_lemmas) in
-    let all : items ≡ item_texts records (item_shape shape) inputs = c.in-Ok.ensures ∙ ap (λ s. item_texts records s inputs) c.item_shape.ensures in
+    let all : items ≡ item_texts records (item_shape shape) inputs = c.in_ok-items-in-List.ensures ∙ ap (λ s. item_texts records s inputs) c.item_shape.ensures in
     let whole : list_of (open_note records shape) items ≡ input_text records shape (input_tree c.args.input.now) = ap (list_of (open_note records shape)) all ∙ ap (input_text records shape) (sym seen) in
     subst (λ (text : ExprTree). IfOk c.list_expr.result (λ e. expr_tree e ≡ text)) whole c.list_expr.ensures

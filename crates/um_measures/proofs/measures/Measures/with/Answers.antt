@@ -18,4 +18,4 @@ invariant_of-result c =
     let ss = c.self.inside.units.items in
     let absent : is_among c.self.inside.names x ≡ false = sym c.has.ensures ∙ c.if-has.false in
     let added = short_names-added x c.self.inside.names ss c.args.unit c.self.invariant absent in
-    c.in-Ok.ensures ∙ added ∙ sym (ap short_names c.in-Ok-with_last.ensures)
+    c.in_ok-add.ensures ∙ added ∙ ap (λ (y : List ℕ). short_names (ss ++ record { name = y; unit = c.args.unit } ∷ [])) (sym c.in_ok-name.ensures) ∙ sym (ap short_names c.in_ok-push.ensures.items)

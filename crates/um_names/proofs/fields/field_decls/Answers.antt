@@ -11,13 +11,7 @@ use Rattle.um_names.specs.Resolution.{resolved_field_decls}
 use Rattle.um_names.specs.Tables.{known_of}
 use Rattle.um_measures.proofs.Stages.{map_from_more}
 use Rattle.um_names.proofs.FieldDecls.{names_in, field_next, field_stops, names_next}
-use Rattle.um_names.proofs.fields.add_field_decls.Goals as goal
-
-pub loop-text-init : goal.loop-text-init
-loop-text-init c = record {
-  done = ap (λ (gs : List FieldDecl). resolved_field_decls (known_of c.args.tables.now) c.args.variables.now (map field_tree gs) (map field_decl_syntax c.args.raw.now)) (sym c.requires.fields);
-  own = c.requires.own ∙ ap (λ (gs : List FieldDecl). names_in (map field_tree gs)) (sym c.requires.fields);
-}
+use Rattle.um_names.proofs.fields.field_decls.Goals as goal
 
 pub loop-text-preserved : goal.loop-text-preserved
 loop-text-preserved c =

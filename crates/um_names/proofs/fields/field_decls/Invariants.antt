@@ -4,7 +4,7 @@ use Rattle.um_tree.specs.RawTree.{field_decl_syntax}
 use Rattle.um_names.specs.Resolution.{resolved_field_decls}
 use Rattle.um_names.specs.Tables.{known_of}
 use Rattle.um_names.proofs.FieldDecls.{names_in}
-use Rattle.um_names.proofs.fields.add_field_decls.Given as goal
+use Rattle.um_names.proofs.fields.field_decls.Given as goal
 
 abbrev pub invariant-loop-text : goal.invariant-loop-text
 invariant-loop-text l = record {
