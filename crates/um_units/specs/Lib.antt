@@ -8,4 +8,5 @@ pub mod Variables
 pub mod Solutions
 -- What mirrors the code.
 pub mod PowerMapCode
+pub mod Storage
 pub mod Wide

@@ -23,19 +23,21 @@ ghost use Rattle.um_units.specs.Terms.{is_normal};
 ghost use Rattle.um_units.specs.Variables.{variables_below};
 ghost use Rattle.um_units.specs.Wide.{as_terms};
 
-use smallvec::SmallVec;
 use std::alloc::{AllocError, AllocFailed, Global};
 use std::marker::Model;
 use thiserror::Error;
 
 mod closed;
+mod few;
 mod images;
 mod kept;
 mod merge;
 mod short;
 mod staying;
+mod terms;
 pub mod wide;
 
+use terms::Terms;
 use wide::WideTerm;
 
 /// Want of memory, if nothing else can go wrong.
@@ -48,27 +50,12 @@ pub enum Atom {
     Var(u32),
 }
 
-// What is in the places of a list of terms that hold none.
-impl Default for Atom {
-    ghost use Rattle.std.specs.Prelude.{◌≡◌};
-    ghost use Rattle.um_units.specs.declared.Atom.TheVariants.{Base};
-
-    ghost is_default = { λ a. a ≡ Base 0 };
-
-    fn default() -> Atom {
-        Atom::Base(0)
-    }
-}
-
 /// An atom and its power.
-#[derive(Clone, Copy, Debug, Default, PartialEq, Eq, Hash)]
+#[derive(Clone, Copy, Debug, PartialEq, Eq, Hash)]
 pub struct Term {
     pub atom: Atom,
     pub power: i32,
 }
-
-/// The terms of a unit. Most units have no more than two.
-type Terms = SmallVec<Term, 2>;
 
 /// Why an operation on units gives none.
 #[derive(Clone, Copy, Debug, PartialEq, Eq, Error)]
@@ -126,28 +113,28 @@ impl Model for Unit {
 
     ghost use Rattle.um_units.specs.Range.{IsKept};
 
-    ghost view = { λ unit. product unit.terms.items };
+    ghost view = { λ unit. product unit.terms };
 
-    ghost invariant = { λ unit. IsKept unit.terms.items };
+    ghost invariant = { λ unit. IsKept unit.terms };
 }
 
 impl Unit {
     /// The dimensionless unit. Takes no memory.
-    pub fn one(alloc: Global) -> Unit
+    pub fn one(_alloc: Global) -> Unit
         ensures exact { result ≡ one }
     {
         Unit {
-            terms: SmallVec::new(alloc),
+            terms: Terms::new(),
         }
     }
 
     /// The unit that is the atom itself.
-    pub fn atom(alloc: Global, a: Atom) -> Result<Unit, NoMemory>
+    pub fn atom(_alloc: Global, a: Atom) -> Result<Unit, NoMemory>
         ensures exact { IfOk result (λ unit. unit ≡ atom a) }
     {
-        let mut terms = SmallVec::new(alloc);
-        terms.push(Term { atom: a, power: 1 })?;
-        Ok(Unit { terms })
+        Ok(Unit {
+            terms: Terms::one(Term { atom: a, power: 1 }),
+        })
     }
 
     /// The product of the terms, in which an atom may occur more than once, in any order.
@@ -171,7 +158,7 @@ impl Unit {
         ensures exact { IfOk result (λ unit. unit ≡ product terms.now) }
         ensures fits { IsTrue (fits (product terms.now)) }
     {
-        let terms = copied(alloc, terms)?;
+        let terms = Terms::from_slice(alloc, terms)?;
         Ok(Unit { terms })
     }
 
@@ -180,7 +167,7 @@ impl Unit {
         ensures same { IfOk result (λ unit. unit ≡ self.now) }
         ensures fits { IsTrue (fits self.now) }
     {
-        let terms = copied(alloc, self.terms.as_slice())?;
+        let terms = self.terms.copy(alloc)?;
         Ok(Unit { terms })
     }
 
@@ -326,33 +313,21 @@ fn term_of(terms: &[Term], a: Atom) -> Option<&Term>
     terms.iter().find(|term| term.atom == a)
 }
 
-/// The same terms. Two or fewer lie in the value, so that they take no memory.
-fn copied(alloc: Global, terms: &[Term]) -> Result<Terms, AllocError>
-    ensures { IfOk result (λ v. v.items ≡ terms.now) }
-{
-    match terms {
-        [] => Ok(Terms::new(alloc)),
-        [only] => {
-            let mut out = Terms::new(alloc);
-            out.push_reserved(*only);
-            Ok(out)
-        }
-        [first, second] => Ok(Terms::from_buf(alloc, [*first, *second])),
-        _ => Terms::from_slice(alloc, terms),
-    }
-}
-
 /// The terms with each power negated.
 fn inverted(alloc: Global, terms: &[Term]) -> Result<Terms, AllocError>
     requires { IsTrue (all_in_range terms.now) }
-    ensures { IfOk result (λ v. v.items ≡ map (scale (negsuc 0)) terms.now) }
+    ensures { IfOk result (λ v. v ≡ map (scale (negsuc 0)) terms.now) }
 {
-    let mut out = SmallVec::new(alloc);
+    let mut out = Terms::new();
     for term in terms {
-        out.push(Term {
-            atom: term.atom,
-            power: -term.power,
-        })?;
+        let power = -term.power;
+        out.push(
+            alloc,
+            Term {
+                atom: term.atom,
+                power,
+            },
+        )?;
     }
     Ok(out)
 }

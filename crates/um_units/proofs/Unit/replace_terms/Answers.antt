@@ -12,7 +12,7 @@ use Rattle.um_units.proofs.Unit.replace_terms.Goals as goal
 
 same : (c : goal.In_ok-copy) → replace (nth c.args.by.now) c.args.self.now ≡ c.args.self.now
 same c =
-    let u = terms-kept c.self.inside.terms.items c.args.self.now c.self.invariant c.self.view_is in
+    let u = terms-kept c.self.inside.terms c.args.self.now c.self.invariant c.self.view_is in
     replace-base_units (nth c.args.by.now) c.args.self.now c.parted.result.0.now c.parted.result.1.now (c.parted.ensures.parts ∙ c.as_slice.ensures ∙ u) c.parted.ensures.closed (empty _ (search rules))
 
 pub returns-then-is_empty-clause-exact : goal.returns-then-is_empty-clause-exact
@@ -26,7 +26,7 @@ times_product-requires-clause-normal c = normal_front c.parted.result.0.now c.pa
 
 pub returns-clause-exact : goal.returns-clause-exact
 returns-clause-exact c =
-    let u = terms-kept c.self.inside.terms.items c.args.self.now c.self.invariant c.self.view_is in
+    let u = terms-kept c.self.inside.terms c.args.self.now c.self.invariant c.self.view_is in
     let e =
     ap product (ap as_terms c.deref.ensures.value ∙ c.in_ok-sum.ensures)
     ∙ product-of_terms (product (images (nth c.args.by.now) (c.parted.result.0.now ++ c.parted.result.1.now)))
@@ -36,7 +36,7 @@ returns-clause-exact c =
 
 pub returns-clause-range : goal.returns-clause-range
 returns-clause-range c =
-    let u = terms-kept c.self.inside.terms.items c.args.self.now c.self.invariant c.self.view_is in
+    let u = terms-kept c.self.inside.terms c.args.self.now c.self.invariant c.self.view_is in
     let e =
     ap product (ap as_terms c.deref.ensures.value ∙ c.in_ok-sum.ensures)
     ∙ product-of_terms (product (images (nth c.args.by.now) (c.parted.result.0.now ++ c.parted.result.1.now)))

@@ -27,6 +27,6 @@ each s t = by_parts s.atom t.atom s.power t.power
 pub returns : goal.returns
 returns c =
     let d = slice_eq-Decides each c.as_slice.result.now c.as_slice-2.result.now c.eq.result c.eq.ensures in
-    let e = c.as_slice.ensures ∙ terms-kept c.self.inside.terms.items c.args.self.now c.self.invariant c.self.view_is in
-    let f = c.as_slice-2.ensures ∙ terms-kept c.other.inside.terms.items c.args.other.now c.other.invariant c.other.view_is in
+    let e = c.as_slice.ensures ∙ terms-kept c.self.inside.terms c.args.self.now c.self.invariant c.self.view_is in
+    let f = c.as_slice-2.ensures ∙ terms-kept c.other.inside.terms c.args.other.now c.other.invariant c.other.view_is in
     record { same = (λ h. same_from_terms _ _ (sym e ∙ d.0 h ∙ f), λ g. d.1 (e ∙ ap (λ (u : PowerMap). u.terms) g ∙ sym f)) }
