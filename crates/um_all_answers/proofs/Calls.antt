@@ -7,7 +7,7 @@ use Rattle.um_syntax.specs.Laws.{EachTextIsAnswered}
 use Rattle.um_tree.specs.ValueTree.{ValueTree, OutcomeTree, value_outcome, trap_outcome, budget_outcome}
 use Rattle.um_tree.specs.ProgramTree.{ProgramTree}
 use Rattle.um_tree.specs.Meaning.{Out, gives, stops, Stop, trap, budget_end, wrong, end_of, Outcome, outcome_of_call}
-use Rattle.um_trace.specs.Laws.{IsStop, StopsHaveTraces}
+use Rattle.um_eval.specs.Laws.{IsStop, StopsHaveTraces}
 use Rattle.um_show.specs.ValueText.{parts_fit}
 use Rattle.um_shape.specs.Laws.{FaultlessIsShaped}
 use Rattle.um_gen.specs.Laws.{CodeEndsAsMeant}
@@ -42,9 +42,9 @@ use Rattle.um_call_answers.specs.OfCall.{IsAskedCall, OfCall}
 use Rattle.um_call_answers.specs.CallAnswer.{RunAnswer, IsCallAnswer, CallAnswer}
 use Rattle.um_call_answers.specs.BigAnswer.{last_call, run_told, IsBigAnswer, BigAnswer}
 use Rattle.um_call_answers.specs.BigText.{big_text}
-use Rattle.um_trace_answers.specs.TraceText.{stop_label, trace_text}
-use Rattle.um_trace_answers.specs.TraceAnswer.{IsStopTold, IsTracedEnd, TracedRun, IsTraceAnswer, TraceAnswer}
-use Rattle.um_display_answers.specs.ShowAnswer.{IsDisplayedEnd, DisplayedRun, ByUnits, IsShowAnswer, ShowAnswer}
+use Rattle.um_shown_answers.specs.TraceText.{stop_label, trace_text}
+use Rattle.um_shown_answers.specs.TraceAnswer.{IsStopTold, IsTracedEnd, TracedRun, IsTraceAnswer, TraceAnswer}
+use Rattle.um_shown_answers.specs.ShowAnswer.{IsDisplayedEnd, DisplayedRun, ByUnits, IsShowAnswer, ShowAnswer}
 use Rattle.um_all_answers.specs.TextLaws.{EachTextHasStages}
 use Rattle.um_all_answers.proofs.Answers.{Told, of_checked}
 use Rattle.um_all_answers.specs.CallLaws.{CallsHaveAnswers, TracesHaveAnswers, DisplaysHaveAnswers, GeneratedProgramsHaveAnswers}

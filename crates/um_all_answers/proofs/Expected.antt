@@ -7,10 +7,10 @@ use Rattle.um_syntax.specs.declared.token.Kind.TheVariants as kind
 use Rattle.um_syntax.specs.Lexing.{is_power_place}
 use Rattle.um_vocabulary.specs.declared.vocabulary.Symbol.{Symbol}
 use Rattle.um_parse.specs.Laws.{ProgramsAreDecided}
-use Rattle.um_expected.specs.declared.word.Word.{Word}
-use Rattle.um_expected.specs.declared.word.Word.TheVariants as word
-use Rattle.um_expected.specs.Words.{is_operator, operators, words}
-use Rattle.um_expected.specs.Expected.{Place, put_there, CanStand, NumberCanStand, FractionCanStand, TwoCanStand, OneCanStand, IsPower, AllOperatorsStand, IsWhole, IsExpected, AreChosen, AreExpected}
+use Rattle.um_text_details.specs.declared.word.Word.{Word}
+use Rattle.um_text_details.specs.declared.word.Word.TheVariants as word
+use Rattle.um_text_details.specs.Words.{is_operator, operators, words}
+use Rattle.um_text_details.specs.Expected.{Place, put_there, CanStand, NumberCanStand, FractionCanStand, TwoCanStand, OneCanStand, IsPower, AllOperatorsStand, IsWhole, IsExpected, AreChosen, AreExpected}
 use Rattle.um_verifier.proofs.Decisions.{Dec, both, as_well, if_so, fails, is_test, all}
 
 module _ (decided : ProgramsAreDecided) (p : Place) where

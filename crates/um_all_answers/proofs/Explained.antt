@@ -28,7 +28,7 @@ use Rattle.um_text_details.specs.TextDetails.{text_details}
 use Rattle.um_sites.specs.NameDetails.{name_details}
 use Rattle.um_mismatch.specs.ShapeDetails.{shape_details}
 use Rattle.um_types.specs.declared.parse.LimitKind.TheVariants as limit
-use Rattle.um_unit_lines.specs.UnitsDetails.{reason_text}
+use Rattle.um_explain_answers.specs.UnitsDetails.{reason_text}
 use Rattle.um_unit_reasons.specs.Laws.{RefusalsHaveReasons}
 use Rattle.um_reports.specs.declared.status.Status.{Status}
 use Rattle.um_reports.specs.declared.status.Status.TheVariants.{Done, TooLong}

@@ -33,3 +33,31 @@ mod ImageCalls
 mod Expected
 mod Explained
 mod Orders
+-- displayed values
+mod Segments
+mod Tokens
+mod UnitEdges
+mod UnitAlike
+mod BareUnits
+mod UnitTexts
+mod Spaces
+mod Loosened
+mod Labels
+mod LabelTexts
+mod UnitSizes
+mod OwnUnits
+mod OwnTexts
+mod UnitNotes
+mod Decimals
+mod OverBases
+mod ReadValues
+mod Numbers
+mod Scalars
+mod ReadBack
+-- texts of certificates
+mod Cuts
+mod Names
+mod PrintedUnits
+mod ReadLines
+mod ReadCertificates
+mod Made

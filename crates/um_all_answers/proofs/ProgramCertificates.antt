@@ -29,7 +29,7 @@ use Rattle.um_infer.proofs.SchemeJudgements.{HasJudgement, schemes_until, scheme
 use Rattle.um_check.specs.declared.certificate.Yes.{Yes}
 use Rattle.um_check.specs.declared.certificate.No.{No}
 use Rattle.um_check.specs.Tidy.{IsTidyYes, IsTidyNo}
-use Rattle.um_declared.proofs.Inferred.{rows_are_few, rows_hold_declared_units}
+use Rattle.um_proof.proofs.Inferred.{rows_are_few, rows_hold_declared_units}
 use Rattle.um_kept.specs.declared.stop.CertStop.{CertStop}
 use Rattle.um_kept.specs.declared.stop.CertStop.TheVariants as stop
 use Rattle.um_proof.specs.declared.proofs.Proofs.{Proofs}

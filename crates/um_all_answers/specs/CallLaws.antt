@@ -11,8 +11,8 @@ use Rattle.um_call_answers.specs.TwinAnswer.{TwinAnswer}
 use Rattle.um_call_answers.specs.BigAnswer.{BigAnswer}
 use Rattle.um_call_answers.specs.ExecAnswer.{ExecAnswer}
 use Rattle.um_call_answers.specs.CallsAnswer.{CallsAnswer}
-use Rattle.um_trace_answers.specs.TraceAnswer.{TraceAnswer}
-use Rattle.um_display_answers.specs.ShowAnswer.{ShowAnswer}
+use Rattle.um_shown_answers.specs.TraceAnswer.{TraceAnswer}
+use Rattle.um_shown_answers.specs.ShowAnswer.{ShowAnswer}
 use Rattle.um_all_answers.specs.Answered.{HasAnswer}
 
 -- `run`, `steps` and `eval` answer each call about each text

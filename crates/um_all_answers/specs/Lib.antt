@@ -4,3 +4,6 @@ pub mod Answered
 pub mod TextLaws
 pub mod CallLaws
 pub mod Laws
+-- What holds of all values that are printed with decimals, and of texts of certificates.
+pub mod DisplayLaws
+pub mod CertificateLaws

@@ -1,4 +1,5 @@
-//! The laws that answers exist. A call does nothing: what it ensures is the law.
+//! The laws that answers exist, and that printed values and certificates are read again. A call does nothing: what it
+//! ensures is the law.
 ghost use Rattle.um_all_answers.specs.TextLaws.{EachTextIsReadOrRefused, EachTextHasStages, EachTextHasAnswers};
 ghost use Rattle.um_all_answers.specs.TextLaws.{EachTextIsRescaled, EachTextIsConformed};
 ghost use Rattle.um_all_answers.specs.TextLaws.{EachTextHasImage, EachTextIsProved};
@@ -6,6 +7,8 @@ ghost use Rattle.um_all_answers.specs.CallLaws.{CallsHaveAnswers, TracesHaveAnsw
 ghost use Rattle.um_all_answers.specs.CallLaws.{UnitWordsAreDecided, DisplaysHaveAnswers, SourcesHaveAnswers};
 ghost use Rattle.um_all_answers.specs.CallLaws.{GeneratedProgramsHaveAnswers, ImagesHaveAnswers};
 ghost use Rattle.um_all_answers.specs.Laws.{EachIsAnswered};
+ghost use Rattle.um_all_answers.specs.DisplayLaws.{DisplayIsReadBack};
+ghost use Rattle.um_all_answers.specs.CertificateLaws.{TextsDetermineCertificates, TextsDetermineProofs};
 
 /// Each text is read as a program within the limits, or refused. Then the program has its shapes and its schemes, or
 /// there is a refusal. So `types`, `annot`, `code`, `fmt` and `tidy` have an answer other than want of memory, and so
@@ -59,7 +62,7 @@ pub fn calls_are_answered()
     um_shape::shapes_of_programs();
     um_gen::runs_of_code();
     um_scale::laws::rescaled_programs();
-    um_trace::laws::traces();
+    um_eval::laws::traces();
     um_image::bytes_of_images();
     um_verifier::images_are_answered();
     um_verify::runs_of_verified_images();
@@ -79,3 +82,17 @@ pub fn each_is_answered()
     texts_are_proved();
     calls_are_answered();
 }
+
+/// The text of a value with decimals in units without sizes of their own is read again as the value at its type, as the
+/// text of an argument is, if no `~` stands in it.
+pub fn display_is_read_back()
+    ensures { DisplayIsReadBack }
+{}
+
+/// Certificates of a program that are printed alike are the same. For this the base units of their units must have
+/// names, each slot must have its parts, and numbers must fit into the fields of a certificate. The certificates that
+/// `prove` makes meet all but the last condition.
+pub fn certificate_texts()
+    ensures texts { TextsDetermineCertificates }
+    ensures proofs { TextsDetermineProofs }
+{}

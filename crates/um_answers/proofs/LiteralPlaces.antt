@@ -5,8 +5,8 @@ use Rattle.std.proofs.lemmas.List.Elements.{All-head, All-tail}
 use Rattle.um_frac.specs.declared.number.Frac.{Frac}
 use Rattle.um_tree.specs.ExprTree.{ExprTree, ExprTrees, truth, number, local, call, negate, not_expr, pown, arith, compare, both, either, if, bind, split, nil, list_expr, cons, record_expr, field, none, more}
 use Rattle.um_tree.specs.ProgramTree.{FunctionTree}
-use Rattle.um_readable.specs.Places.{BeginsToken, EachPlace, EachPlaceOf}
-use Rattle.um_readable.proofs.BeginningTokens.{programs_begin_tokens}
+use Rattle.um_front.specs.Places.{BeginsToken, EachPlace, EachPlaceOf}
+use Rattle.um_front.proofs.BeginningTokens.{programs_begin_tokens}
 use Rattle.um_scale.specs.RescaledLiterals.{rescaled_number, misfit_at, misfit, first_misfit, misfit_in}
 use Rattle.um_answers.specs.Laws.{LiteralsBeginTokens}
 

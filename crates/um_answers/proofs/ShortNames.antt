@@ -3,7 +3,7 @@ use Rattle.std.proofs.Common.{ℕ, ◌≤◌, List, length, arith}
 use Rattle.std.specs.Prelude.{All}
 use Rattle.std.proofs.lemmas.List.Elements.{All-weaker}
 use Rattle.um_tree.specs.ProgramTree.{FieldTree, RecordTree, FunctionTree}
-use Rattle.um_readable.proofs.NamesWithin.{names_within}
+use Rattle.um_front.proofs.NamesWithin.{names_within}
 use Rattle.um_image.specs.Laws.{IsShortName, HasShortNames}
 use Rattle.um_front.specs.Stages.{ShapedTree, IsShapedText}
 

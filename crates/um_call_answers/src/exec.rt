@@ -13,12 +13,11 @@ ghost use Rattle.um_call_answers.specs.ExecAnswer.{BytesAnswer, DecodedAnswer, V
 use crate::call_words::CallWords;
 use crate::outcome::{Ended, reply_to_outcome};
 use std::alloc::{AllocError, Global};
-use um_exec::exec;
 use um_front::Answer;
 use um_image::{DecodeStop, decode, type_of_shape};
 use um_reports::{reply_to_bad_byte, reply_to_bad_code, reply_to_bad_head, reply_to_call};
 use um_run::{ImageCall, argument_values, program_of, read_image_call};
-use um_verifier::{Verified, VerifyStop, verify};
+use um_verifier::{Verified, VerifyStop, exec, verify};
 use um_verify::Image;
 
 /// The answer to `exec` about the bytes that were read: if they are a verified image, the function of the call is

@@ -21,7 +21,7 @@ pub struct DisplayUnits {
 }
 
 /// Why the units of a word are none of a program.
-#[derive(Clone, Copy, Debug)]
+#[derive(Clone, Copy)]
 pub enum UnitsStop {
     /// A name is that of no measure and no abbreviation, or a unit text has a variable.
     NoUnit,

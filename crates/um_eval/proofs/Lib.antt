@@ -1,3 +1,7 @@
+pub mod Traced
+pub mod SomeTrace
+mod Bodies
+mod OneTrace
 mod Segments
 mod Completing
 mod Outcomes

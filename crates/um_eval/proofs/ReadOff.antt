@@ -4,9 +4,9 @@ use Rattle.std.specs.Prelude.{IsSome}
 use Rattle.um_tree.specs.ValueTree.{ValueTree}
 use Rattle.um_tree.specs.ProgramTree.{FunctionTree}
 use Rattle.um_tree.specs.Meaning.{Stop, wrong, Out, gives, stops, end_of, Outcome}
-use Rattle.um_trace.specs.Traces.{Spot, Trace, stop_at, inside_call}
-use Rattle.um_trace.specs.Stopping.{CallStops, StopsWith, inside}
-use Rattle.um_trace.proofs.Traced.{traces_are_stops}
+use Rattle.um_eval.specs.Traces.{Spot, Trace, stop_at, inside_call}
+use Rattle.um_eval.specs.Stopping.{CallStops, StopsWith, inside}
+use Rattle.um_eval.proofs.Traced.{traces_are_stops}
 use Rattle.um_eval.specs.declared.stop.Path.{Path}
 use Rattle.um_eval.specs.declared.stop.Operands.{Operands}
 use Rattle.um_eval.specs.declared.frame.Frame.{Frame}

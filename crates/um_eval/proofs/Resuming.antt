@@ -9,8 +9,8 @@ use Rattle.um_tree.specs.ExprTree.{none, more, expr_tree, in_order}
 use Rattle.um_tree.specs.ProgramTree.{FunctionTree}
 use Rattle.um_tree.specs.Meaning.{Stop, trap, budget_end, wrong, Out, gives, stops, then, spend, with_budget, choose, on_list, Means, AllMean, Outcome}
 use Rattle.um_tree.proofs.Equations.{AllMean-none, AllMean-more, declared_calls_mean_their_body, other_calls_are_wrong, undeclared_calls_are_wrong}
-use Rattle.um_trace.specs.Traces.{Trace, stop_at}
-use Rattle.um_trace.specs.Stopping.{AfterItem, CallStops, inside}
+use Rattle.um_eval.specs.Traces.{Trace, stop_at}
+use Rattle.um_eval.specs.Stopping.{AfterItem, CallStops, inside}
 use Rattle.um_cells.specs.declared.store.Store.{Store}
 use Rattle.um_cells.specs.declared.word.Word.{Word}
 use Rattle.um_cells.specs.declared.word.ListCase.TheVariants.{Empty, Items}

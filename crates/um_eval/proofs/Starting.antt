@@ -13,7 +13,7 @@ use Rattle.um_tree.specs.ExprTree.{ExprTree, ExprTrees, truth, number, local, ca
 use Rattle.um_tree.specs.ProgramTree.{FunctionTree}
 use Rattle.um_tree.specs.Meaning.{Out, then, found, Means, AllMean}
 use Rattle.um_tree.proofs.Equations.{Means-truth, Means-number, Means-local, Means-call, Means-negate, Means-not, Means-pown, Means-arith, Means-compare, Means-both, Means-either, Means-if, Means-bind, Means-split, Means-nil, Means-list, Means-cons, Means-record, Means-field}
-use Rattle.um_trace.specs.Traces.{Trace}
+use Rattle.um_eval.specs.Traces.{Trace}
 use Rattle.um_cells.specs.declared.store.Store.{Store}
 use Rattle.um_cells.specs.declared.word.Word.{Word}
 use Rattle.um_cells.specs.Stores.{AllDenote}

@@ -8,10 +8,10 @@ use Rattle.um_tree.specs.ExprTree.{ExprTree, ExprTrees, more}
 use Rattle.um_tree.specs.ProgramTree.{FunctionTree}
 use Rattle.um_tree.specs.Meaning.{Stop, trap, wrong, gives, then, with_budget, calculated, raised, Means, AllMean}
 use Rattle.um_tree.proofs.Equations.{AllMean-more}
-use Rattle.um_trace.specs.Traces.{Trace, stop_at}
-use Rattle.um_trace.specs.Stopping.{Takes, CallStops, inside}
-use Rattle.um_trace.proofs.SomeTrace.{negated_never, not_never, field_never, compared_never, longer_never}
-use Rattle.um_trace.proofs.Bodies.{body_told}
+use Rattle.um_eval.specs.Traces.{Trace, stop_at}
+use Rattle.um_eval.specs.Stopping.{Takes, CallStops, inside}
+use Rattle.um_eval.proofs.SomeTrace.{negated_never, not_never, field_never, compared_never, longer_never}
+use Rattle.um_eval.proofs.Bodies.{body_told}
 use Rattle.um_cells.specs.declared.store.Store.{Store}
 use Rattle.um_cells.specs.declared.word.Word.{Word}
 use Rattle.um_cells.specs.Stores.{DenotesIn}

@@ -6,7 +6,7 @@ use Rattle.um_tree.specs.ExprTree.{expr_tree, in_order}
 use Rattle.um_tree.specs.ProgramTree.{FunctionTree}
 use Rattle.um_tree.specs.Meaning.{Stop, Out, gives, then, with_budget, calculated, compared}
 use Rattle.um_tree.specs.Meaning.{negated, raised, not_of, longer, field_of, choose, on_list, Means, AllMean, Outcome}
-use Rattle.um_trace.specs.Traces.{Trace}
+use Rattle.um_eval.specs.Traces.{Trace}
 use Rattle.um_cells.specs.declared.store.Store.{Store}
 use Rattle.um_cells.specs.declared.word.Word.{Word}
 use Rattle.um_cells.specs.Stores.{DenotesIn, AllDenote}

@@ -3,8 +3,8 @@
 use Rattle.std.specs.Prelude.{◌≡◌, ℕ, List, [], ◌∷◌, ◌++◌, map, Option, Some, None}
 use Rattle.um_tree.specs.ValueTree.{ValueTree}
 use Rattle.um_tree.specs.ProgramTree.{FunctionTree}
-use Rattle.um_trace.specs.Traces.{Spot, Trace}
-use Rattle.um_trace.specs.Stopping.{StopsWith}
+use Rattle.um_eval.specs.Traces.{Spot, Trace}
+use Rattle.um_eval.specs.Stopping.{StopsWith}
 use Rattle.um_eval.specs.declared.stop.Spot.{Spot as Node}
 use Rattle.um_eval.specs.declared.stop.Path.{Path}
 use Rattle.um_eval.specs.declared.frame.Frame.{Frame}

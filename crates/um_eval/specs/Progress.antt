@@ -6,7 +6,7 @@ use Rattle.um_tree.specs.ExprTree.{ExprTrees, expr_tree}
 use Rattle.um_tree.specs.ProgramTree.{FunctionTree}
 use Rattle.um_tree.specs.Meaning.{Stop, trap, budget_end, wrong, Out, gives, stops, then, found, Means, AllMean}
 use Rattle.um_tree.specs.Meaning.{Outcome, end_of}
-use Rattle.um_trace.specs.Traces.{stop_at}
+use Rattle.um_eval.specs.Traces.{stop_at}
 use Rattle.um_cells.specs.declared.store.Store.{Store}
 use Rattle.um_cells.specs.declared.word.Word.{Word}
 use Rattle.um_cells.specs.Stores.{DenotesIn, AllDenote}

@@ -7,8 +7,8 @@ use Rattle.um_tree.specs.ValueTree.{ValueTree, truth_value, number_value, list_v
 use Rattle.um_tree.specs.ExprTree.{ExprTree, ExprTrees}
 use Rattle.um_tree.specs.ProgramTree.{FunctionTree}
 use Rattle.um_tree.specs.Meaning.{Out, gives, calculated, raised, Means, AllMean, Outcome}
-use Rattle.um_trace.specs.Traces.{Spot, Trace, inside_call}
-use Rattle.um_trace.specs.Stopping.{AfterItem, CallStops, Fails, Stops, SomeStops, inside}
+use Rattle.um_eval.specs.Traces.{Spot, Trace, inside_call}
+use Rattle.um_eval.specs.Stopping.{AfterItem, CallStops, Fails, Stops, SomeStops, inside}
 use Rattle.um_eval.specs.declared.frame.Unary.{Unary}
 use Rattle.um_eval.specs.declared.frame.Unary.TheVariants as unary
 use Rattle.um_eval.specs.declared.frame.Binary.{Binary}

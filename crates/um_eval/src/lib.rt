@@ -13,6 +13,7 @@
 mod call;
 mod evaluator;
 mod frame;
+pub mod laws;
 mod next;
 mod operations;
 mod path;

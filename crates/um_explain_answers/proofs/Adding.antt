@@ -13,7 +13,7 @@ use Rattle.um_excerpt.specs.Excerpt.{excerpt}
 use Rattle.um_mismatch.specs.ShapeDetails.{shape_details}
 use Rattle.um_text_details.specs.LimitDetails.{limit_details}
 use Rattle.um_text_details.specs.Stops.{AddsTold}
-use Rattle.um_unit_lines.specs.UnitsDetails.{IsUnitsDetails}
+use Rattle.um_explain_answers.specs.UnitsDetails.{IsUnitsDetails}
 use Rattle.um_explain_answers.specs.Added.{Adds}
 use Rattle.um_explain_answers.specs.NameRest.{IsShapeRest}
 use Rattle.um_explain_answers.specs.TokenRest.{IsSyntaxRest, missing_line}

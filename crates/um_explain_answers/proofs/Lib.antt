@@ -1,7 +1,10 @@
-pub mod StopPlaces
-pub mod Adding
-pub mod UniqueRest
+mod Stops
+mod UniqueDetails
+mod StopPlaces
+mod Adding
+mod UniqueRest
 pub mod ExplainAnswers
 pub mod ShortTexts
 mod Refusals
 mod Following
+mod Examples

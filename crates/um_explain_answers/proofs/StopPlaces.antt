@@ -28,9 +28,9 @@ use Rattle.um_infer.specs.declared.stop.InferStop.{InferStop}
 use Rattle.um_infer.specs.declared.stop.InferStop.TheVariants as infer_stop
 use Rattle.um_infer.specs.Answers.{IsInferred, SaysOfTypings}
 use Rattle.um_infer.specs.Inference.{Inference, infer}
-use Rattle.um_readable.specs.Places.{IsPlace, BeginsToken, BeginsTokenOrEnds, EachProgramPlace, NamePlace, ParsePlace}
-use Rattle.um_readable.proofs.TokenPlaces.{lexical_faults_have_places}
-use Rattle.um_readable.proofs.BeginningTokens.{tokens_begin_characters, syntax_faults_begin_tokens, programs_begin_tokens, name_faults_begin_tokens}
+use Rattle.um_front.specs.Places.{IsPlace, BeginsToken, BeginsTokenOrEnds, EachProgramPlace, NamePlace, ParsePlace}
+use Rattle.um_front.proofs.TokenPlaces.{lexical_faults_have_places}
+use Rattle.um_front.proofs.BeginningTokens.{tokens_begin_characters, syntax_faults_begin_tokens, programs_begin_tokens, name_faults_begin_tokens}
 use Rattle.um_front.specs.Stages.{IsReadText}
 use Rattle.um_front.proofs.RowPlaces.{InferenceHolds, inference_holds, function_at}
 use Rattle.um_front.proofs.ShapePlaces.{first_fault_holds}

@@ -34,12 +34,12 @@ use Rattle.um_infer.specs.declared.stop.InferStop.{InferStop}
 use Rattle.um_infer.specs.declared.stop.InferStop.TheVariants as infer_stop
 use Rattle.um_infer.specs.Answers.{IsInferred}
 use Rattle.um_infer.specs.Inference.{Inference, all_schemes, stops_at_slots, stops_at_range, stops_at_units, stops_at_not_general, infer}
-use Rattle.um_expected.specs.declared.word.Word.{Word}
-use Rattle.um_expected.specs.Expected.{AreExpected}
-use Rattle.um_expected.proofs.WordLaws.{expected_words_are_unique}
+use Rattle.um_text_details.specs.declared.word.Word.{Word}
+use Rattle.um_text_details.specs.Expected.{AreExpected}
+use Rattle.um_text_details.proofs.WordLaws.{expected_words_are_unique}
 use Rattle.um_text_details.specs.SyntaxDetails.{IsToldOf, refused_place, expected_line, missing_in}
 use Rattle.um_text_details.specs.LimitDetails.{limit_details}
-use Rattle.um_unit_lines.proofs.UniqueDetails.{one_details}
+use Rattle.um_explain_answers.proofs.UniqueDetails.{one_details}
 use Rattle.um_excerpt.specs.Excerpt.{excerpt}
 use Rattle.um_front.proofs.Excluded.{not_utf8, not_stopped, not_limited}
 use Rattle.um_explain_answers.specs.TokenRest.{IsTextRest, IsParseRest, IsSyntaxRest, missing_line}

@@ -12,7 +12,7 @@ use Rattle.um_shape.specs.declared.stop.ShapeStop.{ShapeStop}
 use Rattle.um_shape.specs.declared.stop.ShapeStop.TheVariants as shape_stop
 use Rattle.um_infer.specs.declared.stop.InferStop.{InferStop}
 use Rattle.um_infer.specs.declared.stop.InferStop.TheVariants as infer_stop
-use Rattle.um_readable.specs.Places.{IsPlace}
+use Rattle.um_front.specs.Places.{IsPlace}
 use Rattle.um_reports.specs.declared.status.Status.{Status}
 use Rattle.um_front.specs.Stages.{IsReadText}
 use Rattle.um_front.specs.Refused.{IsUnchecked}

@@ -1,6 +1,7 @@
 -- What a reader must trust, in reading order: what follows a report line, stage by stage, and the answer to `explain`.
 pub mod TokenRest
 pub mod NameRest
+pub mod UnitsDetails
 pub mod SchemeRest
 pub mod Stages
 pub mod ExplainAnswer

@@ -7,7 +7,7 @@ use Rattle.um_types.specs.declared.parse.LimitKind.TheVariants as limit
 use Rattle.um_infer.specs.declared.stop.InferStop.{InferStop}
 use Rattle.um_infer.specs.declared.stop.InferStop.TheVariants as stop
 use Rattle.um_excerpt.specs.Excerpt.{excerpt}
-use Rattle.um_unit_lines.specs.UnitsDetails.{IsUnitsDetails}
+use Rattle.um_explain_answers.specs.UnitsDetails.{IsUnitsDetails}
 use Rattle.um_text_details.specs.LimitDetails.{limit_details, range_details}
 
 -- the place of a function's name

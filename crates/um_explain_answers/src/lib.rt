@@ -6,9 +6,11 @@
 #![tactic(auto)]
 
 mod answer;
+mod details;
 pub mod laws;
 mod names;
 mod place;
+mod reason_lines;
 mod refusal;
 mod schemes;
 mod tokens;

@@ -9,7 +9,7 @@ ghost use Rattle.um_front.specs.Stages.{IsReadText};
 ghost use Rattle.um_sites.specs.NameDetails.{name_details as details_of_name, place_or_none};
 ghost use Rattle.um_mismatch.specs.ShapeDetails.{shape_details};
 ghost use Rattle.um_reports.specs.Places.{place_text};
-ghost use Rattle.um_readable.specs.Places.{IsPlace, NamePlace};
+ghost use Rattle.um_front.specs.Places.{IsPlace, NamePlace};
 ghost use Rattle.um_shape.specs.FirstFault.{first_fault};
 ghost use Rattle.um_shape.specs.ShapedProgram.{IsRefusal};
 ghost use Rattle.um_explain_answers.specs.Added.{Adds, HasNames, ShapePlace};

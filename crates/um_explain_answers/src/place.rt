@@ -1,7 +1,7 @@
 // Places of a text, as they are shown and printed.
 ghost use Rattle.std.specs.Prelude.{◌≡◌, ◌++◌, ◌≤◌, OnOk, length};
 ghost use Rattle.um_excerpt.specs.Excerpt.{excerpt};
-ghost use Rattle.um_readable.specs.Places.{IsPlace};
+ghost use Rattle.um_front.specs.Places.{IsPlace};
 ghost use Rattle.um_reports.specs.Places.{place_text};
 
 use std::alloc::{AllocError, Global};

@@ -3,7 +3,7 @@ ghost use Rattle.std.specs.Prelude.{◌≡◌, ◌++◌, ◌≤◌, IfOk, OnOk, 
 ghost use Rattle.um_tree.specs.ProgramTree.{program_tree};
 ghost use Rattle.um_tree.specs.RawTree.{program_syntax};
 ghost use Rattle.um_infer.specs.Answers.{IsInferred, SaysOfTypings, scheme_trees};
-ghost use Rattle.um_readable.specs.Places.{IsPlace};
+ghost use Rattle.um_front.specs.Places.{IsPlace};
 ghost use Rattle.um_shape.specs.FirstFault.{first_fault};
 ghost use Rattle.um_reports.specs.Steps.{IsReply};
 ghost use Rattle.um_reports.specs.declared.status.Status.TheVariants.{Done};
@@ -12,6 +12,7 @@ ghost use Rattle.um_explain_answers.specs.Added.{Adds, HasNames, InferPlace};
 ghost use Rattle.um_explain_answers.specs.ExplainAnswer.{ExplainAnswer};
 ghost use Rattle.um_explain_answers.specs.SchemeRest.{IsSchemeRest};
 
+use crate::details::push_units;
 use crate::place::push_source;
 use crate::refusal::explained;
 use std::alloc::{AllocError, Global};
@@ -23,7 +24,6 @@ use um_shape::Shaped;
 use um_text_details::{push_limit_details, push_range_details};
 use um_tree::{RawProgram, Schemes};
 use um_types::LimitKind;
-use um_unit_lines::push_units;
 
 /// The answer about a text with its shapes.
 pub(crate) fn answer_shaped(

@@ -5,7 +5,7 @@ ghost use Rattle.um_parse.specs.Parsed.{Parsed};
 ghost use Rattle.um_types.specs.declared.parse.ParseStop.TheVariants as parse_stop;
 ghost use Rattle.um_explain_answers.specs.Added.{Adds, IsTextPlace};
 ghost use Rattle.um_explain_answers.specs.ExplainAnswer.{ExplainAnswer};
-ghost use Rattle.um_readable.specs.Places.{IsPlace, ParsePlace};
+ghost use Rattle.um_front.specs.Places.{IsPlace, ParsePlace};
 ghost use Rattle.um_explain_answers.specs.TokenRest.{IsParseRest, IsSyntaxRest, IsTextRest, missing_line};
 
 use crate::names::answer_tree;

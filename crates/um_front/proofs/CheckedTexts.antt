@@ -4,7 +4,7 @@ use Rattle.um_tree.specs.RawTree.{DeclSyntax}
 use Rattle.um_tree.specs.Formed.{IsFormed}
 use Rattle.um_names.specs.Readable.{IsReadable}
 use Rattle.um_names.proofs.FormedPrograms.{resolution_formed}
-use Rattle.um_readable.proofs.TextBytes.{readable_program}
+use Rattle.um_front.proofs.TextBytes.{readable_program}
 use Rattle.um_infer.specs.Schemes.{ArePrincipal}
 use Rattle.um_infer.proofs.InferenceLaws.{given_schemes_are_principal}
 use Rattle.um_run.specs.Calls.{AreClosedUnits}

@@ -19,9 +19,9 @@ use Rattle.um_shape.specs.declared.stop.ShapeStop.TheVariants as shape_stop
 use Rattle.um_shape.specs.FirstFault.{wrong_shape, too_deep, first_fault}
 use Rattle.um_shape.specs.ShapedProgram.{IsRefusal}
 use Rattle.um_infer.specs.Inference.{Inference, all_schemes, stops_at_slots, stops_at_range, stops_at_units, stops_at_not_general, infer}
-use Rattle.um_readable.specs.Places.{BeginsToken, BeginsTokenOrEnds, ParsePlace, NamePlace, EachProgramPlace}
-use Rattle.um_readable.proofs.TokenPlaces.{lexical_faults_have_places}
-use Rattle.um_readable.proofs.BeginningTokens.{syntax_faults_begin_tokens, programs_begin_tokens, name_faults_begin_tokens}
+use Rattle.um_front.specs.Places.{BeginsToken, BeginsTokenOrEnds, ParsePlace, NamePlace, EachProgramPlace}
+use Rattle.um_front.proofs.TokenPlaces.{lexical_faults_have_places}
+use Rattle.um_front.proofs.BeginningTokens.{syntax_faults_begin_tokens, programs_begin_tokens, name_faults_begin_tokens}
 use Rattle.um_reports.specs.declared.status.Status.{Status}
 use Rattle.um_reports.specs.declared.status.Status.TheVariants.{TooLong}
 use Rattle.um_reports.specs.Refusals.{placed, limit_label, range_label, units_label, not_general_label, IsTextReply, IsParseReply, IsNameReply, IsShapeReply}

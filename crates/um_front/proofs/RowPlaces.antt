@@ -35,7 +35,7 @@ use Rattle.um_rows.specs.FirstUnsolvable.{Solving, solved, unsolved, out_of_rang
 use Rattle.um_rows.specs.Judgement.{numbered_scheme, signature_fits, Judgement, has_scheme, too_many_slots, passes_range, has_no_typing, not_general, by_slots, by_solving, by_rows, by_range, judge}
 use Rattle.um_rows.specs.Generalised.{generalised}
 use Rattle.um_infer.specs.Inference.{Inference, all_schemes, stops_at_slots, stops_at_range, stops_at_units, stops_at_not_general, with_judgement, with_function, and_then, infer_first, infer}
-use Rattle.um_readable.specs.Places.{EachPlace, EachPlaceOf, EachProgramPlace}
+use Rattle.um_front.specs.Places.{EachPlace, EachPlaceOf, EachProgramPlace}
 
 -- Q holds of both, so of the one that is taken
 pick : {A : Type 0} (Q : A → Type 0) (b : Bool) (x y : A) → Q x → Q y → Q (cond b x y)

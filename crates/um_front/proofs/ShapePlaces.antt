@@ -10,7 +10,7 @@ use Rattle.um_tree.specs.Heights.{greatest_height}
 use Rattle.um_shape.specs.RecordShapes.{RecordShape, shape_height, tallest, declared_shape}
 use Rattle.um_shape.specs.FirstFault.{ShapeFault, wrong_shape, too_deep, then, same_shape, where_true, of_numbers, of_truths, of_arms, of_condition, of_list, of_items, of_head, of_call, of_record, of_field, item_of, at_node, found, all_found}
 use Rattle.um_shape.specs.FirstFault.{own_shapes, fits_result, function_found, functions_found, record_found, records_found, program_found, fault_of, first_fault}
-use Rattle.um_readable.specs.Places.{EachPlace, EachPlaceOf, EachProgramPlace}
+use Rattle.um_front.specs.Places.{EachPlace, EachPlaceOf, EachProgramPlace}
 
 module _ (P : ℕ → Type 0) where
   abbrev pub FaultHolds : ShapeFault → Type 0

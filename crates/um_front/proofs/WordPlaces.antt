@@ -30,11 +30,11 @@ use Rattle.um_value.specs.InputRead.{HasFaultAt, HasValueText, IsInputOf}
 use Rattle.um_sig.specs.declared.stop.SigText.{SigText}
 use Rattle.um_sig.specs.declared.stop.SigText.TheVariants as sig_text
 use Rattle.um_sig.specs.Reading.{AreTypes, HasNameFaultAt, IsRead}
-use Rattle.um_readable.specs.Places.{BeginsToken, BeginsTokenOrEnds}
-use Rattle.um_readable.proofs.TokenPlaces.{AllStarts, lexical_faults_have_places}
-use Rattle.um_readable.proofs.NotePlaces.{all_after, NoteHolds, NotesHold, TypeHolds, note_holds, type_holds, after_type}
-use Rattle.um_readable.proofs.FaultPlaces.{FaultHolds, then_holds, last_holds, PlaceHolds, unless_holds, earlier_holds, unknown_holds, unit_fault, record_fault, type_fault}
-use Rattle.um_readable.proofs.BeginningTokens.{all_begin, token_or_end}
+use Rattle.um_front.specs.Places.{BeginsToken, BeginsTokenOrEnds}
+use Rattle.um_front.proofs.TokenPlaces.{AllStarts, lexical_faults_have_places}
+use Rattle.um_front.proofs.NotePlaces.{all_after, NoteHolds, NotesHold, TypeHolds, note_holds, type_holds, after_type}
+use Rattle.um_front.proofs.FaultPlaces.{FaultHolds, then_holds, last_holds, PlaceHolds, unless_holds, earlier_holds, unknown_holds, unit_fault, record_fault, type_fault}
+use Rattle.um_front.proofs.BeginningTokens.{all_begin, token_or_end}
 use Rattle.um_front.specs.Laws.{IsWordPlace, InputPlace, SignaturePlace, ArgumentsTellPlaces, SignaturesTellPlaces}
 
 module _ (P : ℕ → Type 0) where

@@ -10,7 +10,7 @@ use Rattle.um_tree.specs.TypeTree.{ShapeTree}
 use Rattle.um_tree.specs.ProgramTree.{ProgramTree}
 use Rattle.um_measures.specs.declared.abbreviation.Abbreviation.{Abbreviation}
 use Rattle.um_measures.specs.Known.{Known}
-use Rattle.um_readable.specs.Places.{IsPlace, BeginsTokenOrEnds}
+use Rattle.um_front.specs.Places.{IsPlace, BeginsTokenOrEnds}
 use Rattle.um_value.specs.declared.stop.InputStop.{InputStop}
 use Rattle.um_value.specs.declared.stop.InputStop.TheVariants as input_stop
 use Rattle.um_value.specs.InputRead.{IsInputOf}

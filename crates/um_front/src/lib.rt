@@ -22,7 +22,10 @@ mod tree;
 
 pub use checked::Checked;
 pub use checking::{SolvedText, check, check_solved, function_at, reply_to_untyped};
-pub use laws::{refusals_tell_places, word_refusals_tell_places};
+pub use laws::{
+    names_are_within, nodes_have_places, places_begin_tokens, read_programs_are_readable,
+    refusals_tell_places, tokens_are_within, word_refusals_tell_places,
+};
 pub use parts::{CheckedParts, ReadText, ShapedText, SourceText};
 pub use reading::Reading;
 pub use shaping::shape_text;

@@ -23,7 +23,7 @@ use Rattle.um_check.specs.declared.certificate.Yes.{Yes}
 use Rattle.um_check.specs.Validity.{ShowsGeneral}
 use Rattle.um_check.specs.Laws.{Gives}
 use Rattle.um_check.proofs.Returns.{valid_yes_is_exact}
-use Rattle.um_declared.specs.Laws.{RowsHoldDeclaredUnits, TypesHoldDeclaredUnits}
+use Rattle.um_proof.specs.EquationLaws.{RowsHoldDeclaredUnits, TypesHoldDeclaredUnits}
 use Rattle.um_proof.specs.Proving.{IsYesOf}
 use Rattle.um_proof.specs.Laws.{HoldDeclaredUnits, CertifiedOverDeclaredUnits, CertificatesShowPrincipalSchemes}
 use Rattle.um_proof.proofs.Instantiated.{given_is}

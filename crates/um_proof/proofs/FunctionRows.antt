@@ -27,7 +27,7 @@ use Rattle.um_rows.specs.Answers.{rows_signature, AreEquations, HaveVariablesBel
 use Rattle.um_slots.proofs.ParameterSlots.{parameters_have_slots}
 use Rattle.um_rows.proofs.Solved.{rows_hold_slots, types_hold_slots}
 use Rattle.um_proof.specs.Answers.{AreFunctionRows, judged}
-use Rattle.um_declared.proofs.Inferred.{rows_hold_declared_units, types_hold_declared_units, rows_are_few}
+use Rattle.um_proof.proofs.Inferred.{rows_hold_declared_units, types_hold_declared_units, rows_are_few}
 use Rattle.um_infer.proofs.SchemeJudgements.{same_signature, same_rows}
 use Rattle.um_proof.specs.ProgramSteps.{HaveInferred}
 use Rattle.um_proof.proofs.DeclaredUnits.{all_none, types_none}

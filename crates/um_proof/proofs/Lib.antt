@@ -1,3 +1,8 @@
+mod Lacks
+mod NodeRules
+mod Derivations
+mod Elimination
+pub mod Inferred
 mod General
 mod HeldVariables
 pub mod Renamed

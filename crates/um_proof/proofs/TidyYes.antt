@@ -22,8 +22,8 @@ use Rattle.um_check.specs.declared.certificate.Yes.{Yes}
 use Rattle.um_check.specs.Existence.{divided_inverse, inverse_after}
 use Rattle.um_check.specs.Tidy.{AreTidyParts, IsTidyYes}
 use Rattle.um_check.proofs.Extensions.{weight-extension}
-use Rattle.um_declared.proofs.Lacks.{Lacks, one_lacks, variable_lacks, base_lacks, quotient_lacks, replace_lacks, all_replaced, nth_lacks, below_lacks, all_bases_below}
-use Rattle.um_declared.proofs.Elimination.{substitute_lacks, by_lacks, multiply_lacks, unit_after_step_lacks, after_lack, rigid_lack, past_parameters, general_lacks}
+use Rattle.um_proof.proofs.Lacks.{Lacks, one_lacks, variable_lacks, base_lacks, quotient_lacks, replace_lacks, all_replaced, nth_lacks, below_lacks, all_bases_below}
+use Rattle.um_proof.proofs.Elimination.{substitute_lacks, by_lacks, multiply_lacks, unit_after_step_lacks, after_lack, rigid_lack, past_parameters, general_lacks}
 use Rattle.um_kept.specs.declared.kept.PartialCertificate.{PartialCertificate}
 use Rattle.um_kept.specs.Kept.{Kept, row_unit, kept_after_steps, ended, IsRowMade, IsReached, first, first_back}
 use Rattle.um_kept.specs.Answers.{Agrees}

@@ -1,3 +1,10 @@
+mod Satisfying
+pub mod CoreLemmas
+mod SearchSteps
+mod Growing
+pub mod FirstRows
+mod WideProducts
+mod WideSteps
 pub mod ReasonLaws
-pub mod OthersLeft
+mod OthersLeft
 mod Examples

@@ -28,9 +28,9 @@ use Rattle.um_elim.proofs.VariablesKept.{solved_below, all_rigid_below, put_belo
 use Rattle.um_equal_types.specs.Steps.{units_of}
 use Rattle.um_agree.specs.Agreements.{Agreement, agreement_rows}
 use Rattle.um_agree.proofs.AgreementRows.{agreements_are_equalities}
-use Rattle.um_core.specs.Core.{picked}
-use Rattle.um_core.proofs.Satisfying.{all_unmap}
-use Rattle.um_core.proofs.CoreLaws.{further_below}
+use Rattle.um_reasons.specs.Core.{picked}
+use Rattle.um_reasons.proofs.Satisfying.{all_unmap}
+use Rattle.um_reasons.proofs.CoreLemmas.{further_below}
 use Rattle.um_reasons.specs.Reasons.{disagree, units_pass, factor, by_elimination, other_rows, numbered, reason}
 use Rattle.um_reasons.specs.Laws.{HoldSlots, IsExplained, ToldTypesAreMostGeneral, ToldTypesNeverAgree, ToldTypesHoldSlots}
 

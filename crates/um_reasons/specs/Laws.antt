@@ -10,8 +10,8 @@ use Rattle.um_tree.specs.Scheme.{type_variables}
 use Rattle.um_elim.specs.Solution.{parameter_rows}
 use Rattle.um_equal_types.specs.Steps.{units_of}
 use Rattle.um_agree.specs.Agreements.{Agreement, agreement_rows}
-use Rattle.um_core.specs.Core.{IsCore}
-use Rattle.um_core.specs.Laws.{EndsUnsolvable}
+use Rattle.um_reasons.specs.Core.{IsCore}
+use Rattle.um_reasons.specs.CoreLaws.{EndsUnsolvable}
 use Rattle.um_reasons.specs.Reasons.{disagree, numbered, other_rows, reason}
 
 -- the rows and the two types hold slots alone, of which the first are those of the unit parameters

@@ -4,7 +4,7 @@ use std::alloc::AllocError;
 use thiserror::Error;
 
 /// Why a text isn't a signature. A place is a byte offset in the text.
-#[derive(Clone, Copy, Debug, PartialEq, Eq, Error)]
+#[derive(Clone, Copy, Debug, Error)]
 pub enum SigText {
     /// A character at which no token stands, or a number or a power that breaks its rule.
     #[error("text at {at}")]
@@ -28,7 +28,7 @@ pub enum SigText {
 
 /// Why a function doesn't conform to a signature, or isn't found to. An index is that of a type of the signature or of
 /// the scheme, the result's last, counted from 0.
-#[derive(Clone, Copy, Debug, PartialEq, Eq, Error)]
+#[derive(Clone, Copy, Debug, Error)]
 pub enum SigStop {
     /// The types at the index differ in more than their units, or one of the two has no type there.
     #[error("the types differ in form")]

@@ -15,7 +15,7 @@ use um_scale::Scales;
 use um_tree::{Name, Program};
 
 /// Why a program's base units have no sizes by a word.
-#[derive(Clone, Copy, Debug)]
+#[derive(Clone, Copy)]
 pub enum ScalesRefusal {
     /// A name of the word is that of no base unit.
     NoBaseUnit,

@@ -1,5 +1,5 @@
 // Readers and writers of std that fail, and runs over a source and a sink that never do.
-use crate::run::Tally;
+use crate::run::{Tally, report_try};
 use std::alloc::Global;
 use std::io;
 use std::io::{ErrorKind, Read, Write};
@@ -27,9 +27,7 @@ pub fn report_faults<R: Print + AllocGlobal>(rt: &R, total: &mut Tally) -> Resul
             quiet_runs_agree(alloc, &words),
         ),
     ] {
-        let shown = if agrees { "agrees" } else { "DIFFERS" };
-        println!(rt; "{title}: {shown}")?;
-        total.add(agrees);
+        report_try(rt, title, agrees, total)?;
     }
     Ok(())
 }

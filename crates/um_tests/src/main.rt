@@ -1,21 +1,27 @@
-//! Whole runs of the program as data, and how the adapters over std meet a fault.
+//! Whole runs of the program as data, how the adapters over std meet a fault, and calls that no command makes.
 //!
 //! Standard input is a table (`table.rt` says what its lines mean): texts, and with each text
 //! questions, which are the words of a run and the status and the answer that must come. Each
 //! question is put to `serve` over a source and a sink in memory. A line says what came. After the table come
-//! readers and writers of std that fail, and the last line says how many cases there were and how many agree.
+//! readers and writers of std that fail, and public calls of the lower crates that no command makes by itself. The last
+//! line says how many cases there were and how many agree.
 //!
 //! ```
 //! crates/um_tests/out/um_tests < crates/um_tests/stdin
 //! ```
 #![tactic(auto)]
 
+mod calls;
+mod certificates;
 mod faults;
+mod machine;
 mod piece;
 mod run;
 mod table;
+mod trees;
 mod turns;
 
+use calls::report_calls;
 use faults::report_faults;
 use run::{Tally, report};
 use std::io;
@@ -27,6 +33,7 @@ fn main(rt: HostRuntime) -> Result<(), Fail> {
     let mut total = Tally { runs: 0, agree: 0 };
     report_table(&rt, &table, &mut total)?;
     report_faults(&rt, &mut total)?;
+    report_calls(&rt, &mut total)?;
     let Tally { runs, agree } = total;
     println!(rt; "{runs} cases, {agree} agree")?;
     Ok(())

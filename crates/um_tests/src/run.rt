@@ -74,6 +74,19 @@ fn report_answer<R: Print>(
     Ok(())
 }
 
+/// Prints how a try came out, and counts it.
+pub fn report_try<R: Print>(
+    rt: &R,
+    title: &str,
+    agrees: bool,
+    total: &mut Tally,
+) -> Result<(), Fail> {
+    total.add(agrees);
+    let shown = if agrees { "agrees" } else { "DIFFERS" };
+    println!(rt; "{title}: {shown}")?;
+    Ok(())
+}
+
 /// The status of one run of the question's words over the bytes, and the sink with its answer.
 pub fn ask(
     alloc: Global,

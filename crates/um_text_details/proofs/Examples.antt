@@ -6,7 +6,7 @@ use Rattle.um_syntax.specs.declared.token.Kind.TheVariants as kind
 use Rattle.um_syntax.specs.declared.token.Token.{Token}
 use Rattle.um_vocabulary.specs.declared.vocabulary.Keyword.TheVariants as keyword
 use Rattle.um_types.specs.declared.parse.LimitKind.TheVariants as limit
-use Rattle.um_expected.specs.declared.word.Word.TheVariants as word
+use Rattle.um_text_details.specs.declared.word.Word.TheVariants as word
 use Rattle.um_text_details.specs.LimitDetails.{limit_details}
 use Rattle.um_text_details.specs.OpenLets.{open_let}
 use Rattle.um_text_details.specs.SyntaxDetails.{expected_line, missing_in}

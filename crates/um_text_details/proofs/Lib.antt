@@ -1,6 +1,10 @@
-pub mod FirstCharacter
+mod WordLists
+mod Told
+mod Tries
+pub mod WordLaws
+mod FirstCharacter
 pub mod RisingTokens
-pub mod RefusedTokens
-pub mod LetsAfter
-pub mod TokenLists
+mod RefusedTokens
+mod LetsAfter
+mod TokenLists
 mod Examples

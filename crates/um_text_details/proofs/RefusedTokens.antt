@@ -11,8 +11,8 @@ use Rattle.um_types.specs.declared.parse.ParseStop.TheVariants as stop
 use Rattle.um_parse.specs.DeclGrammar.{IsProgram}
 use Rattle.um_parse.specs.Parsed.{Parsed}
 use Rattle.um_parse.specs.ProgramHeights.{program_height}
-use Rattle.um_expected.specs.declared.word.Word.{Word}
-use Rattle.um_expected.specs.Expected.{Place, AreExpected}
+use Rattle.um_text_details.specs.declared.word.Word.{Word}
+use Rattle.um_text_details.specs.Expected.{Place, AreExpected}
 use Rattle.um_text_details.specs.SyntaxDetails.{expected_line, is_glued, missing_in}
 use Rattle.um_text_details.specs.Stops.{AddsTold, number_at}
 use Rattle.um_text_details.proofs.RisingTokens.{number_of_place, place_after, tokens_rise}

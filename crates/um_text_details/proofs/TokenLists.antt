@@ -5,7 +5,7 @@ use Rattle.std.proofs.Math.Seq.{drop-cons, drop-length}
 use Rattle.std.proofs.lemmas.Grind.{flat_map-append}
 use Rattle.std.proofs.lemmas.List.{append-nil, take_more}
 use Rattle.um_syntax.specs.declared.token.Token.{Token}
-use Rattle.um_expected.specs.declared.word.Word.{Word}
+use Rattle.um_text_details.specs.declared.word.Word.{Word}
 use Rattle.um_text_details.specs.SyntaxDetails.{spaced_word}
 use Rattle.um_text_details.specs.Stops.{number_at}
 

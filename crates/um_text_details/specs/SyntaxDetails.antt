@@ -8,10 +8,10 @@ use Rattle.um_syntax.specs.declared.token.Token.{Token}
 use Rattle.um_vocabulary.specs.declared.vocabulary.Keyword.TheVariants as keyword
 use Rattle.um_unit_texts.specs.UnitStops.{place_of}
 use Rattle.um_parse.specs.ProgramStops.{StopsAt}
-use Rattle.um_expected.specs.declared.word.Word.{Word}
-use Rattle.um_expected.specs.declared.word.Word.TheVariants as word
-use Rattle.um_expected.specs.Words.{word_text}
-use Rattle.um_expected.specs.Expected.{Place, AreExpected}
+use Rattle.um_text_details.specs.declared.word.Word.{Word}
+use Rattle.um_text_details.specs.declared.word.Word.TheVariants as word
+use Rattle.um_text_details.specs.Words.{word_text}
+use Rattle.um_text_details.specs.Expected.{Place, AreExpected}
 use Rattle.um_text_details.specs.OpenLets.{ends_body, open_let}
 
 -- ---- the words

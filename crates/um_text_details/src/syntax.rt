@@ -9,15 +9,16 @@ ghost use Rattle.um_types.specs.declared.parse.ParseStop.TheVariants as stop;
 ghost use Rattle.um_parse.specs.DeclGrammar.{IsProgram};
 ghost use Rattle.um_parse.specs.Parsed.{Parsed};
 ghost use Rattle.um_parse.specs.ProgramHeights.{program_height};
-ghost use Rattle.um_expected.specs.Expected.{AreExpected};
+ghost use Rattle.um_text_details.specs.Expected.{AreExpected};
 ghost use Rattle.um_text_details.specs.SyntaxDetails.{expected_line, is_glued, is_in_word as is_in};
 ghost use Rattle.um_text_details.specs.SyntaxDetails.{missing_in, spaced_word};
 ghost use Rattle.um_text_details.specs.Stops.{AddsTold, number_at};
 
 use crate::missing::{ends_body, open_let};
-use crate::word::{is_in_word, word_text};
+use crate::tell::expected;
+use crate::word::Word;
+use crate::word_text::{is_in_word, word_text};
 use std::alloc::{AllocError, Global};
-use um_expected::{Word, expected};
 use um_syntax::Token;
 
 /// Adds the words that could stand where tokens that are no program are refused, at the place `at`, on a line. The

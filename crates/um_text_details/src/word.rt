@@ -1,93 +1,128 @@
-// The texts of words.
+//! The words that may be told as expected.
 ghost use Rattle.std.specs.Prelude.{◌≡◌};
-ghost use Rattle.um_vocabulary.specs.Vocabulary.{keyword_text, symbol_text};
-ghost use Rattle.um_expected.specs.Words.{word_text};
-ghost use Rattle.um_text_details.specs.SyntaxDetails.{is_in_word};
+ghost use Rattle.um_text_details.specs.Words.{is_operator, operators, words};
 
-use um_expected::Word;
 use um_syntax::{Keyword, Symbol};
 
-/// The text of a word.
-pub(crate) fn word_text(word: Word) -> &'static str
-    ensures { result.now ≡ word_text word }
-{
-    match word {
-        Word::Name => "NAME",
-        Word::Variable => "VARIABLE",
-        Word::Hole => "_",
-        Word::Number => "NUMBER",
-        Word::Whole => "WHOLE",
-        Word::One => "1",
-        Word::Keyword(keyword) => keyword_text(keyword),
-        Word::Operator => "OPERATOR",
-        Word::Sign(symbol) => symbol_text(symbol),
-        Word::End => "end",
-    }
+/// A word of what is expected.
+#[derive(Clone, Copy)]
+pub enum Word {
+    Name,
+    Variable,
+    Hole,
+    /// Any number.
+    Number,
+    /// A whole number in digits.
+    Whole,
+    /// The digit 1.
+    One,
+    Keyword(Keyword),
+    /// Any of `< <= = <> > + - * / :: || &&`.
+    Operator,
+    Sign(Symbol),
+    End,
 }
 
-fn keyword_text(keyword: Keyword) -> &'static str
-    ensures { result.now ≡ keyword_text keyword }
+static ALL_WORDS: [Word; 51] = [
+    Word::Name,
+    Word::Variable,
+    Word::Hole,
+    Word::Number,
+    Word::Whole,
+    Word::One,
+    Word::Keyword(Keyword::Let),
+    Word::Keyword(Keyword::Rec),
+    Word::Keyword(Keyword::In),
+    Word::Keyword(Keyword::If),
+    Word::Keyword(Keyword::Then),
+    Word::Keyword(Keyword::Else),
+    Word::Keyword(Keyword::Match),
+    Word::Keyword(Keyword::With),
+    Word::Keyword(Keyword::Type),
+    Word::Keyword(Keyword::True),
+    Word::Keyword(Keyword::False),
+    Word::Keyword(Keyword::Not),
+    Word::Keyword(Keyword::Num),
+    Word::Keyword(Keyword::Bool),
+    Word::Keyword(Keyword::List),
+    Word::Keyword(Keyword::Measure),
+    Word::Keyword(Keyword::Pown),
+    Word::Operator,
+    Word::Sign(Symbol::LeftParen),
+    Word::Sign(Symbol::RightParen),
+    Word::Sign(Symbol::LeftBracket),
+    Word::Sign(Symbol::RightBracket),
+    Word::Sign(Symbol::LeftBrace),
+    Word::Sign(Symbol::RightBrace),
+    Word::Sign(Symbol::AttributeOpen),
+    Word::Sign(Symbol::Less),
+    Word::Sign(Symbol::Greater),
+    Word::Sign(Symbol::Equal),
+    Word::Sign(Symbol::LessEqual),
+    Word::Sign(Symbol::NotEqual),
+    Word::Sign(Symbol::Plus),
+    Word::Sign(Symbol::Minus),
+    Word::Sign(Symbol::Star),
+    Word::Sign(Symbol::Slash),
+    Word::Sign(Symbol::Caret),
+    Word::Sign(Symbol::Semicolon),
+    Word::Sign(Symbol::Colon),
+    Word::Sign(Symbol::ColonColon),
+    Word::Sign(Symbol::Comma),
+    Word::Sign(Symbol::Dot),
+    Word::Sign(Symbol::Bar),
+    Word::Sign(Symbol::BarBar),
+    Word::Sign(Symbol::AndAnd),
+    Word::Sign(Symbol::Arrow),
+    Word::End,
+];
+
+static ALL_OPERATORS: [Symbol; 12] = [
+    Symbol::Less,
+    Symbol::Greater,
+    Symbol::Equal,
+    Symbol::LessEqual,
+    Symbol::NotEqual,
+    Symbol::Plus,
+    Symbol::Minus,
+    Symbol::Star,
+    Symbol::Slash,
+    Symbol::ColonColon,
+    Symbol::BarBar,
+    Symbol::AndAnd,
+];
+
+/// All words, in the order in which they are told.
+pub(crate) fn words() -> &'static [Word]
+    ensures { result.now ≡ words }
 {
-    match keyword {
-        Keyword::Let => "let",
-        Keyword::Rec => "rec",
-        Keyword::In => "in",
-        Keyword::If => "if",
-        Keyword::Then => "then",
-        Keyword::Else => "else",
-        Keyword::Match => "match",
-        Keyword::With => "with",
-        Keyword::Type => "type",
-        Keyword::True => "true",
-        Keyword::False => "false",
-        Keyword::Not => "not",
-        Keyword::Num => "num",
-        Keyword::Bool => "bool",
-        Keyword::List => "list",
-        Keyword::Measure => "Measure",
-        Keyword::Pown => "pown",
-    }
+    &ALL_WORDS
 }
 
-fn symbol_text(symbol: Symbol) -> &'static str
-    ensures { result.now ≡ symbol_text symbol }
+/// The signs that one word tells if all of them could stand.
+pub(crate) fn operators() -> &'static [Symbol]
+    ensures { result.now ≡ operators }
 {
-    match symbol {
-        Symbol::LeftParen => "(",
-        Symbol::RightParen => ")",
-        Symbol::LeftBracket => "[",
-        Symbol::RightBracket => "]",
-        Symbol::LeftBrace => "{",
-        Symbol::RightBrace => "}",
-        Symbol::AttributeOpen => "[<",
-        Symbol::Less => "<",
-        Symbol::Greater => ">",
-        Symbol::Equal => "=",
-        Symbol::LessEqual => "<=",
-        Symbol::NotEqual => "<>",
-        Symbol::Plus => "+",
-        Symbol::Minus => "-",
-        Symbol::Star => "*",
-        Symbol::Slash => "/",
-        Symbol::Caret => "^",
-        Symbol::Semicolon => ";",
-        Symbol::Colon => ":",
-        Symbol::ColonColon => "::",
-        Symbol::Comma => ",",
-        Symbol::Dot => ".",
-        Symbol::Bar => "|",
-        Symbol::BarBar => "||",
-        Symbol::AndAnd => "&&",
-        Symbol::Arrow => "->",
-    }
+    &ALL_OPERATORS
 }
 
-/// Whether the word is `in`.
-pub(crate) fn is_in_word(word: Word) -> bool
-    ensures { result ≡ is_in_word word }
+/// Whether the sign is an operator.
+pub(crate) fn is_operator(sign: Symbol) -> bool
+    ensures { result ≡ is_operator sign }
 {
-    match word {
-        Word::Keyword(Keyword::In) => true,
+    match sign {
+        Symbol::Less
+        | Symbol::Greater
+        | Symbol::Equal
+        | Symbol::LessEqual
+        | Symbol::NotEqual
+        | Symbol::Plus
+        | Symbol::Minus
+        | Symbol::Star
+        | Symbol::Slash
+        | Symbol::ColonColon
+        | Symbol::BarBar
+        | Symbol::AndAnd => true,
         _ => false,
     }
 }

@@ -18,8 +18,8 @@ use Rattle.um_call_answers.proofs.CallsDone.{call_done}
 use Rattle.um_call_answers.proofs.CallsAnswers.{calls_done}
 use Rattle.um_call_answers.proofs.BigAnswers.{big_done}
 use Rattle.um_call_answers.proofs.TwinDone.{twin_done}
-use Rattle.um_trace_answers.proofs.TraceAnswers.{trace_done}
-use Rattle.um_display_answers.proofs.ShowDone.{show_done}
+use Rattle.um_shown_answers.proofs.TraceAnswers.{trace_done}
+use Rattle.um_shown_answers.proofs.ShowDone.{show_done}
 use Rattle.um_explain_answers.proofs.ShortTexts.{explain_done_if_short}
 use Rattle.um_tool.specs.Asked.{called, held_name, signature_text, rescale_sizes, twin_sizes, called_twice}
 use Rattle.um_tool.specs.Asked.{shown_units, called_shown}

@@ -26,8 +26,8 @@ use Rattle.um_call_answers.specs.declared.way.Way.TheVariants as way
 use Rattle.um_call_answers.specs.AskedCall.{AskedCall}
 use Rattle.um_call_answers.specs.CallAnswer.{IsCallAnswer, CallAnswer}
 use Rattle.um_call_answers.specs.TwinAnswer.{IsTwinAnswer, TwinAnswer}
-use Rattle.um_trace_answers.specs.TraceAnswer.{IsTraceAnswer, TraceAnswer}
-use Rattle.um_display_answers.specs.ShowAnswer.{IsShowAnswer, ShowAnswer}
+use Rattle.um_shown_answers.specs.TraceAnswer.{IsTraceAnswer, TraceAnswer}
+use Rattle.um_shown_answers.specs.ShowAnswer.{IsShowAnswer, ShowAnswer}
 use Rattle.um_tool.specs.Asked.{called, held_name, signature_text, rescale_sizes, twin_sizes, called_twice}
 use Rattle.um_tool.specs.Asked.{shown_units, called_shown, StatesUnits}
 use Rattle.um_tool.specs.Answer.{Answer, ByOrder}

@@ -32,12 +32,12 @@ use Rattle.um_call_answers.specs.AskedCall.{AskedCall}
 use Rattle.um_call_answers.specs.OfCall.{OfCall}
 use Rattle.um_call_answers.specs.CallAnswer.{IsCallAnswer, RunAnswer, IsOutcomeReply}
 use Rattle.um_call_answers.specs.TwinAnswer.{AreValueReplies, IsStopReply, AreOutcomeReplies, TwinRunAnswer, misfit_among, InputsAnswer, TwinLiteralsAnswer, ByTwinSizes, IsTwinAnswer}
-use Rattle.um_trace_answers.specs.TraceAnswer.{IsStopTold, IsTracedEnd, TracedRun, IsTraceAnswer}
+use Rattle.um_shown_answers.specs.TraceAnswer.{IsStopTold, IsTracedEnd, TracedRun, IsTraceAnswer}
 use Rattle.um_display.specs.declared.unit.DisplayUnit.{DisplayUnit}
 use Rattle.um_display.specs.declared.unit.UnitsStop.{UnitsStop}
 use Rattle.um_display.specs.declared.unit.UnitsStop.TheVariants as units_stop
 use Rattle.um_display.specs.DisplayUnits.{display_units}
-use Rattle.um_display_answers.specs.ShowAnswer.{IsDisplayedEnd, DisplayedRun, ByUnits, IsShowAnswer}
+use Rattle.um_shown_answers.specs.ShowAnswer.{IsDisplayedEnd, DisplayedRun, ByUnits, IsShowAnswer}
 use Rattle.um_tool.specs.Headline.{names_untyped}
 use Rattle.um_tool.proofs.CallsMeant.{refuted, call_fails, signature_fails}
 use Rattle.um_tool.proofs.CallStages.{call_stage, twin_stage}

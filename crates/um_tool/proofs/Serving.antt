@@ -33,8 +33,8 @@ use Rattle.um_call_answers.specs.TwinAnswer.{TwinAnswer}
 use Rattle.um_call_answers.specs.BigAnswer.{BigAnswer}
 use Rattle.um_call_answers.specs.ExecAnswer.{BytesAnswer, ExecAnswer}
 use Rattle.um_call_answers.specs.CallsAnswer.{SourceAnswer, CallsAnswer}
-use Rattle.um_trace_answers.specs.TraceAnswer.{TraceAnswer}
-use Rattle.um_display_answers.specs.ShowAnswer.{ShowAnswer}
+use Rattle.um_shown_answers.specs.TraceAnswer.{TraceAnswer}
+use Rattle.um_shown_answers.specs.ShowAnswer.{ShowAnswer}
 use Rattle.um_explain_answers.proofs.ShortTexts.{explain_too_long}
 use Rattle.um_display.specs.UnitWords.{PartSyntax, IsUnitWord}
 use Rattle.um_tool.specs.Asked.{called, shown_units, StatesUnits}

@@ -6,7 +6,7 @@ use Rattle.um_tree.specs.ProgramTree.{ProgramTree, SchemeTree}
 use Rattle.um_tree.specs.Formed.{IsFormed}
 use Rattle.um_tree.specs.Scheme.{IsPrincipal}
 use Rattle.um_shape.proofs.Complete.{faultless_is_shaped}
-use Rattle.um_declared.proofs.Inferred.{schemes_hold_declared_units}
+use Rattle.um_proof.proofs.Inferred.{schemes_hold_declared_units}
 use Rattle.um_sig.specs.declared.signature.Signature.{Signature as ReadSignature}
 use Rattle.um_sig.specs.declared.stop.SigText.{SigText}
 use Rattle.um_sig.specs.declared.stop.SigText.TheVariants as sig_text

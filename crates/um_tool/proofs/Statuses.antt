@@ -18,8 +18,8 @@ use Rattle.um_call_answers.proofs.CallStatuses.{CallAnswer-status, BigAnswer-sta
 use Rattle.um_call_answers.proofs.CallsAnswers.{CallsAnswer-status}
 use Rattle.um_call_answers.proofs.ExecAnswers.{ExecAnswer-status}
 use Rattle.um_call_answers.proofs.TwinAnswers.{TwinAnswer-status}
-use Rattle.um_trace_answers.proofs.TraceAnswers.{TraceAnswer-status}
-use Rattle.um_display_answers.proofs.ShowStatuses.{ShowAnswer-status}
+use Rattle.um_shown_answers.proofs.TraceAnswers.{TraceAnswer-status}
+use Rattle.um_shown_answers.proofs.ShowStatuses.{ShowAnswer-status}
 use Rattle.um_explain_answers.proofs.ExplainAnswers.{ExplainAnswer-status}
 use Rattle.um_tool.specs.Asked.{called, held_name, signature_text, rescale_sizes, twin_sizes, called_twice}
 use Rattle.um_tool.specs.Asked.{shown_units, called_shown}

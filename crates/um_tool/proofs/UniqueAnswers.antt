@@ -20,8 +20,8 @@ use Rattle.um_call_answers.proofs.BigAnswers.{big_one}
 use Rattle.um_call_answers.proofs.CallsAnswers.{calls_one}
 use Rattle.um_call_answers.proofs.UniqueReplies.{call_one}
 use Rattle.um_call_answers.proofs.TwinAnswers.{twin_one}
-use Rattle.um_trace_answers.specs.Laws.{TracesAreOne}
-use Rattle.um_display_answers.proofs.ShowOnce.{ShowAnswer-once}
+use Rattle.um_shown_answers.specs.Laws.{TracesAreOne}
+use Rattle.um_shown_answers.proofs.ShowOnce.{ShowAnswer-once}
 use Rattle.um_explain_answers.proofs.ExplainAnswers.{explain_one}
 use Rattle.um_tool.specs.Asked.{called, held_name, signature_text, rescale_sizes, twin_sizes, called_twice}
 use Rattle.um_tool.specs.Asked.{shown_units, called_shown}

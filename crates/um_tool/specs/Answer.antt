@@ -24,8 +24,8 @@ use Rattle.um_call_answers.specs.TwinAnswer.{TwinAnswer}
 use Rattle.um_call_answers.specs.BigAnswer.{BigAnswer}
 use Rattle.um_call_answers.specs.ExecAnswer.{ExecAnswer}
 use Rattle.um_call_answers.specs.CallsAnswer.{CallsAnswer}
-use Rattle.um_trace_answers.specs.TraceAnswer.{TraceAnswer}
-use Rattle.um_display_answers.specs.ShowAnswer.{ShowAnswer}
+use Rattle.um_shown_answers.specs.TraceAnswer.{TraceAnswer}
+use Rattle.um_shown_answers.specs.ShowAnswer.{ShowAnswer}
 use Rattle.um_explain_answers.specs.ExplainAnswer.{ExplainAnswer}
 use Rattle.um_tool.specs.Asked.{called, held_name, signature_text, rescale_sizes, twin_sizes, called_twice}
 use Rattle.um_tool.specs.Asked.{shown_units, called_shown, StatesUnits}

@@ -14,8 +14,8 @@ use Rattle.um_call_answers.specs.BigText.{big_text}
 use Rattle.um_call_answers.specs.BigAnswer.{last_call}
 use Rattle.um_call_answers.specs.ExecAnswer.{GivesImageValue}
 use Rattle.um_call_answers.specs.Passing.{GivesValue, GivesTwins}
-use Rattle.um_trace_answers.specs.Laws.{CanBeTraced}
-use Rattle.um_display_answers.specs.Passing.{GivesDisplay}
+use Rattle.um_shown_answers.specs.Laws.{CanBeTraced}
+use Rattle.um_shown_answers.specs.Passing.{GivesDisplay}
 use Rattle.um_tool.specs.Asked.{called, held_name, signature_text, rescale_sizes, twin_sizes, called_twice}
 use Rattle.um_tool.specs.Asked.{shown_units, called_shown, StatesUnits}
 

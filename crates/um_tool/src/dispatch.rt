@@ -11,11 +11,10 @@ use um_answers::{
     answer_rescale, answer_tidy, answer_types,
 };
 use um_call_answers::{Way, answer_call, answer_calls, answer_exec};
-use um_display_answers::answer_show;
 use um_explain_answers::answer_explain;
 use um_front::{Answer, Text};
 use um_orders::{BytesOrder, TextOrder, Words};
-use um_trace_answers::answer_trace;
+use um_shown_answers::{answer_show, answer_trace};
 use um_twin_answers::answer_twin;
 
 /// The answer to an order about a text.

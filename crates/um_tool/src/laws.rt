@@ -120,5 +120,5 @@ pub fn answers_are_unique()
 {
     um_parse::laws::answers_are_unique();
     um_call_answers::laws::answers_of_images();
-    um_trace_answers::laws::traces();
+    um_shown_answers::laws::traces();
 }

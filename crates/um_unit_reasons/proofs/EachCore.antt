@@ -13,8 +13,8 @@ use Rattle.um_units.proofs.Solutions.{Solves-append, Solves-front, Solves-back}
 use Rattle.um_elim.specs.Solution.{parameter_rows}
 use Rattle.um_equal_types.specs.declared.row.Row.{Row}
 use Rattle.um_equal_types.specs.Steps.{units_of}
-use Rattle.um_core.specs.Core.{picked, IsSolvableWith, IsSolvableList, IsNextRow, IsGrown, IsCore}
-use Rattle.um_core.specs.Laws.{EndsUnsolvable}
+use Rattle.um_reasons.specs.Core.{picked, IsSolvableWith, IsSolvableList, IsNextRow, IsGrown, IsCore}
+use Rattle.um_reasons.specs.CoreLaws.{EndsUnsolvable}
 use Rattle.um_unit_reasons.proofs.WideRows.{rows_are_decided}
 
 -- ---- what holds of rows holds of those that are picked

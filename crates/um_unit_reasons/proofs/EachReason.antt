@@ -24,8 +24,8 @@ use Rattle.um_rows.specs.FirstUnsolvable.{rows_up_to}
 use Rattle.um_rows.specs.Judgement.{judge}
 use Rattle.um_rows.proofs.JudgementLaws.{judged_untyped_have_none, judged_not_general_have_none}
 use Rattle.um_rows.proofs.Solved.{parameters_in_slots, all_fit, rows_hold_slots}
-use Rattle.um_core.specs.Laws.{EndsUnsolvable}
-use Rattle.um_core.proofs.FirstRows.{first_unsolvable_ends, first_unsolvable_ends_alone}
+use Rattle.um_reasons.specs.CoreLaws.{EndsUnsolvable}
+use Rattle.um_reasons.proofs.FirstRows.{first_unsolvable_ends, first_unsolvable_ends_alone}
 use Rattle.um_agree.specs.Agreements.{Agreement}
 use Rattle.um_agree.specs.RowAgreements.{agreement_of}
 use Rattle.um_agree.specs.Answers.{agreement_fits}

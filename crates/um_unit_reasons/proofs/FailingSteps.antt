@@ -15,7 +15,7 @@ use Rattle.um_elim.proofs.Cases.{on_test}
 use Rattle.um_equal_types.specs.declared.row.Row.{Row}
 use Rattle.um_equal_types.specs.Steps.{units_of}
 use Rattle.um_rows.specs.FirstUnsolvable.{rows_up_to}
-use Rattle.um_core.specs.Core.{IsCore}
+use Rattle.um_reasons.specs.Core.{IsCore}
 use Rattle.um_agree.specs.declared.rule.Rule.TheVariants as asks
 use Rattle.um_agree.specs.declared.agreements.Told.{Told as Agreed}
 use Rattle.um_agree.specs.Agreements.{Agreement}

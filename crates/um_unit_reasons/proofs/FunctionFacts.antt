@@ -33,8 +33,8 @@ use Rattle.um_rows.specs.Laws.{IsFirstRow}
 use Rattle.um_rows.proofs.JudgementLaws.{judged_untyped_have_none, judged_not_general_have_none}
 use Rattle.um_rows.proofs.Solved.{rows_hold_slots}
 use Rattle.um_rows.proofs.TypedShapes.{shaped_functions_form_no_wrong_shape}
-use Rattle.um_core.specs.Laws.{EndsUnsolvable}
-use Rattle.um_core.proofs.FirstRows.{first_unsolvable_ends, first_unsolvable_ends_alone}
+use Rattle.um_reasons.specs.CoreLaws.{EndsUnsolvable}
+use Rattle.um_reasons.proofs.FirstRows.{first_unsolvable_ends, first_unsolvable_ends_alone}
 use Rattle.um_agree.specs.Answers.{AreKept}
 use Rattle.um_agree.specs.Laws.{HoldsSlots}
 use Rattle.um_agree.specs.FunctionAgreements.{function_agreements}

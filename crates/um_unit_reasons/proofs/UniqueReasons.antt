@@ -14,8 +14,8 @@ use Rattle.um_elim.specs.Solution.{parameter_rows}
 use Rattle.um_equal_types.specs.declared.row.Row.{Row}
 use Rattle.um_rows.specs.Judgement.{Judgement, has_no_typing, not_general, judge}
 use Rattle.um_equal_types.specs.Steps.{units_of}
-use Rattle.um_core.specs.Core.{IsGrown, IsBegun, IsCore}
-use Rattle.um_core.proofs.CoreLaws.{one_core}
+use Rattle.um_reasons.specs.Core.{IsGrown, IsBegun, IsCore}
+use Rattle.um_reasons.proofs.CoreLemmas.{one_core}
 use Rattle.um_agree.specs.Agreements.{Agreement}
 use Rattle.um_agree.specs.RowAgreements.{agreement_of}
 use Rattle.um_agree.specs.Answers.{agreement_fits}

@@ -15,7 +15,7 @@ use Rattle.um_equal_types.specs.declared.row.Row.{Row}
 use Rattle.um_equal_types.specs.Steps.{units_of}
 use Rattle.um_rows.specs.FirstUnsolvable.{rows_up_to}
 use Rattle.um_rows.specs.Judgement.{judge}
-use Rattle.um_core.specs.Laws.{EndsUnsolvable}
+use Rattle.um_reasons.specs.CoreLaws.{EndsUnsolvable}
 use Rattle.um_agree.specs.declared.agreements.Told.{Told as Agreed}
 use Rattle.um_agree.specs.Agreements.{Agreement}
 use Rattle.um_agree.specs.RowAgreements.{agreement_of}

@@ -20,7 +20,7 @@ use Rattle.um_rows.specs.Equations.{slot_equations}
 use Rattle.um_rows.specs.FirstUnsolvable.{rows_up_to}
 use Rattle.um_rows.specs.Judgement.{Judgement, has_no_typing, not_general}
 use Rattle.um_rows.specs.Generalised.{generalised_unit}
-use Rattle.um_core.specs.Core.{IsCore}
+use Rattle.um_reasons.specs.Core.{IsCore}
 use Rattle.um_agree.specs.declared.rule.Rule.TheVariants as asks
 use Rattle.um_agree.specs.Agreements.{Agreement}
 use Rattle.um_agree.specs.FunctionAgreements.{function_agreements}

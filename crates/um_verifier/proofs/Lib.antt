@@ -19,3 +19,4 @@ pub mod Decisions
 mod DecidedNames
 mod DecidedHeads
 mod DecidedAddresses
+mod CallEnds

@@ -4,7 +4,7 @@ use std::alloc::{AllocError, AllocFailed};
 use thiserror::Error;
 
 /// Why an image isn't verified.
-#[derive(Clone, Copy, Debug, PartialEq, Eq, Error)]
+#[derive(Clone, Copy, Debug, Error)]
 pub enum VerifyStop {
     /// The first head that breaks its rules: records first, and functions after them, counted from 0.
     #[error("wrong head")]

@@ -1,7 +1,7 @@
 use Rattle.std.proofs.Common.{length, sym, ◌∙◌, subst, arith}
 use Rattle.std.specs.Prelude.{All}
 use Rattle.um_tree.specs.Formed.{BasesBelow}
-use Rattle.um_declared.proofs.Inferred.{rows_hold_declared_units}
+use Rattle.um_proof.proofs.Inferred.{rows_hold_declared_units}
 use Rattle.um_tree.specs.ProgramTree.{program_tree}
 use Rattle.um_infer.specs.Answers.{scheme_trees}
 use Rattle.um_infer.proofs.SchemeLists.{item_at}

@@ -1,6 +1,6 @@
 use Rattle.std.proofs.Common.{Bool, IfOk, List, subst, take}
 use Rattle.um_syntax.specs.declared.token.Token.{Token}
-use Rattle.um_expected.specs.Expected.{AreExpected}
+use Rattle.um_text_details.specs.Expected.{AreExpected}
 use Rattle.um_text_details.proofs.syntax.words_at.Goals as goal
 
 pub returns : goal.returns

@@ -6,7 +6,7 @@ use Rattle.um_elim.specs.Solution.{parameter_rows}
 use Rattle.um_equal_types.specs.declared.row.Row.{Row}
 use Rattle.um_equal_types.specs.Steps.{units_of}
 use Rattle.um_rows.specs.FirstUnsolvable.{rows_up_to}
-use Rattle.um_core.specs.Core.{IsCore}
+use Rattle.um_reasons.specs.Core.{IsCore}
 use Rattle.um_unit_reasons.proofs.FailingSteps.{rows_low, holds_last}
 use Rattle.um_unit_reasons.proofs.failing.core_reason.Goals as goal
 

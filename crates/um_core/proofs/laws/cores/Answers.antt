@@ -1,5 +1,0 @@
-use Rattle.um_core.proofs.CoreLaws.{cores_are_smallest, cut_cores_are_solvable, cores_are_unique}
-use Rattle.um_core.proofs.laws.cores.Goals as goal
-
-pub returns : goal.returns
-returns c = record { smallest = cores_are_smallest; cut_off = cut_cores_are_solvable; unique = cores_are_unique }

@@ -1,5 +1,0 @@
-use Rattle.um_core.proofs.Growing.{IsGrowing}
-use Rattle.um_core.proofs.smallest.core_of.Given as goal
-
-abbrev pub invariant-loop : goal.invariant-loop
-invariant-loop l = IsGrowing l.slots l.bases l.parameters l.rows l.counter l.list.items

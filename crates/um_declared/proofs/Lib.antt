@@ -1,5 +1,0 @@
-pub mod Lacks
-mod NodeRules
-mod Derivations
-pub mod Elimination
-pub mod Inferred

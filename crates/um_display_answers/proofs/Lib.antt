@@ -1,3 +1,0 @@
-pub mod ShowStatuses
-pub mod ShowOnce
-pub mod ShowDone

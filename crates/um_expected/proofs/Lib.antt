@@ -1,4 +1,0 @@
-pub mod WordLists
-pub mod Told
-pub mod Tries
-pub mod WordLaws

@@ -1,6 +1,0 @@
-use Rattle.std.proofs.Common.{take}
-use Rattle.um_expected.specs.Expected.{IsExpected, AreChosen}
-use Rattle.um_expected.proofs.tell.told_at.Given as goal
-
-abbrev pub invariant-loop-word : goal.invariant-loop-word
-invariant-loop-word l = AreChosen (IsExpected l.trial) (take l.word-index l.word-items) l.told.items

@@ -1,5 +1,0 @@
-use Rattle.um_readable.proofs.NodePlaces.{nodes_have_places}
-use Rattle.um_readable.proofs.laws.nodes_have_places.Goals as goal
-
-pub returns : goal.returns
-returns c = nodes_have_places

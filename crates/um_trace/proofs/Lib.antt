@@ -1,4 +1,0 @@
-pub mod Traced
-pub mod SomeTrace
-pub mod Bodies
-mod OneTrace

@@ -1,5 +1,0 @@
-mod TracePlaces
-mod Stops
-mod CallLines
-pub mod TraceAnswers
-pub mod Runs
