@@ -4,7 +4,7 @@ use std::alloc::{AllocError, AllocFailed};
 use thiserror::Error;
 
 /// Why the nodes of a function that has a scheme have no types.
-#[derive(Clone, Copy, Debug, PartialEq, Eq, Error)]
+#[derive(Clone, Copy, Debug, Error)]
 pub enum AnnotStop {
     /// The type of a node has a power outside -2147483647..2147483647: this is the byte offset of the first such node.
     #[error("a power is out of range")]

@@ -5,7 +5,7 @@ use thiserror::Error;
 use um_units::UnitStop;
 
 /// Why a row is refused, or a solver gives no type.
-#[derive(Clone, Copy, Debug, PartialEq, Eq, Error)]
+#[derive(Clone, Copy, Debug, Error)]
 pub enum ElimStop {
     /// The rows have no joint solution.
     #[error("no solution")]

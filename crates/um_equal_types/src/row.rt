@@ -53,7 +53,7 @@ impl Drop for Rows {
 }
 
 /// Why a function has no rows.
-#[derive(Clone, Copy, Debug, PartialEq, Eq, Error)]
+#[derive(Clone, Copy, Debug, Error)]
 pub enum RowStop {
     /// It has more than 2,000 slots.
     #[error("too many slots")]

@@ -10,7 +10,7 @@ use crate::divisor::{common_divisor, wide_common_divisor};
 const GREATEST: u128 = i64::MAX as u128;
 
 /// Why an operation on fractions has no result.
-#[derive(Clone, Copy, Debug, PartialEq, Eq)]
+#[derive(Clone, Copy)]
 pub enum Trap {
     /// The exact result, in lowest terms, is out of the range of [`Frac`].
     Overflow,
@@ -25,7 +25,7 @@ pub enum Trap {
 ///
 /// An operation gives the exact result in lowest terms, by cross products as in Knuth, Seminumerical Algorithms, 4.5.1,
 /// or it says by a [`Trap`] why there is none. It takes no memory.
-#[derive(Clone, Copy, Debug)]
+#[derive(Clone, Copy)]
 pub struct Frac {
     num: i64,
     den: i64,

@@ -4,7 +4,7 @@ use std::alloc::{AllocError, AllocFailed};
 use thiserror::Error;
 
 /// Why bytes aren't an image.
-#[derive(Clone, Copy, Debug, PartialEq, Eq, Error)]
+#[derive(Clone, Copy, Debug, Error)]
 pub enum DecodeStop {
     /// The first byte of the first item that is cut or that cannot stand there, or the first byte after the end.
     #[error("no image")]

@@ -4,7 +4,7 @@ use std::alloc::AllocFailed;
 use thiserror::Error;
 
 /// Why a program has no schemes: the first of its functions that has none, by its number.
-#[derive(Clone, Copy, Debug, PartialEq, Eq, Error)]
+#[derive(Clone, Copy, Debug, Error)]
 pub enum InferStop {
     /// The function has no typing: the first of its equations that no units satisfy is at the byte offset `at`.
     #[error("no units satisfy the equations")]
@@ -25,7 +25,7 @@ pub enum InferStop {
 }
 
 /// Why a call has no type.
-#[derive(Clone, Copy, Debug, PartialEq, Eq, Error)]
+#[derive(Clone, Copy, Debug, Error)]
 pub enum CallStop {
     /// No typing of the function has parameters of the arguments' types.
     #[error("no units satisfy the equations")]

@@ -5,7 +5,7 @@ use std::marker::Model;
 
 /// At most 16 bytes, which lie in the value itself.
 #[derive(Drop)]
-pub struct ShortBytes {
+pub(crate) struct ShortBytes {
     len: u32,
     bytes: [u8; 16],
 }

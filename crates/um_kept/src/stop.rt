@@ -4,7 +4,7 @@ use std::alloc::{AllocError, AllocFailed};
 use thiserror::Error;
 
 /// Why no certificate is made.
-#[derive(Clone, Copy, Debug, PartialEq, Eq, Error)]
+#[derive(Clone, Copy, Debug, Error)]
 pub enum CertStop {
     /// An overflow: this number is outside what a certificate can hold, -2147483647..2147483647 as a power of a unit,
     /// and otherwise -9223372036854775807..9223372036854775807.

@@ -4,7 +4,7 @@ use std::alloc::{AllocError, AllocFailed};
 use thiserror::Error;
 
 /// Why a raw tree stands for nothing. A place is a byte offset in its text.
-#[derive(Clone, Copy, Debug, PartialEq, Eq, Error)]
+#[derive(Clone, Copy, Debug, Error)]
 pub enum NameStop {
     /// A name isn't known where it stands.
     #[error("unknown name at {at}")]

@@ -9,7 +9,7 @@ use crate::taken::Taken;
 use std::alloc::{AllocError, Global};
 
 /// Why tokens are not read. The numbers of tokens count from 0; that of the end is the number of tokens.
-#[derive(Clone, Copy, Debug)]
+#[derive(Clone, Copy)]
 pub enum ReadStop {
     /// The tokens before this one, which is refused, or all tokens if it is the end, are no text.
     Syntax(usize),

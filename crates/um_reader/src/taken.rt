@@ -1,7 +1,7 @@
 // What a token gives.
 
 /// What a reader answers to a token.
-#[derive(Clone, Copy, Debug)]
+#[derive(Clone, Copy)]
 pub enum Taken {
     /// The tokens through it begin a text within the height, and the reader goes on.
     Goes,

@@ -12,7 +12,7 @@ use um_units::{Atom, NoMemory, Term, Unit};
 /// A positive number for each base unit: how many of its new size make one of its old size.
 ///
 /// Contracts see the list of these numbers.
-#[derive(Debug, Drop)]
+#[derive(Drop)]
 pub struct Scales {
     items: Vec<Frac>,
 }

@@ -3,7 +3,7 @@ use std::alloc::{AllocError, AllocFailed};
 use thiserror::Error;
 
 /// Why a program or an input has no rescaled one.
-#[derive(Clone, Copy, Debug, PartialEq, Eq, Error)]
+#[derive(Clone, Copy, Debug, Error)]
 pub enum ScaleStop {
     /// At the place stands the first number whose factor, by its partial products, or whose product with it is out of
     /// range.

@@ -5,7 +5,7 @@ ghost use Rattle.um_syntax.specs.Decoding.{char_len, IsDecoded};
 use std::str;
 
 /// What bytes that are at most one character are.
-#[derive(Clone, Copy, Debug, PartialEq, Eq)]
+#[derive(Clone, Copy)]
 pub enum Decoded {
     /// A character.
     Whole(char),

@@ -18,7 +18,7 @@ const MOST_DIGITS: u32 = 38;
 const GREATEST_POWER: u128 = 2147483647;
 
 /// How much of a number's text has been read.
-#[derive(Clone, Copy, Debug, PartialEq, Eq)]
+#[derive(Clone, Copy)]
 pub enum Part {
     /// Digits.
     Whole,
@@ -68,7 +68,7 @@ impl Part {
 /// The digits of a number's text so far, as a fraction that isn't reduced: `above` over `below`, and how many they are.
 ///
 /// The two stand still at `GREATEST`, and the count stands still once it has passed `MOST_DIGITS`.
-#[derive(Clone, Copy, Debug, PartialEq, Eq)]
+#[derive(Clone, Copy)]
 pub struct Figures {
     pub above: u128,
     pub below: u128,
@@ -172,7 +172,7 @@ impl Figures {
 
 /// The number's text at the front of bytes, as far as it goes: how many bytes it has, and of these those up to the last
 /// digit.
-#[derive(Clone, Copy, Debug)]
+#[derive(Clone, Copy)]
 pub struct NumberText {
     pub len: usize,
     pub end: usize,

@@ -11,7 +11,7 @@ use um_vocabulary::double_symbol;
 use unicode_ident::{is_xid_continue, is_xid_start};
 
 /// What has been read of the token that may go on, with the place where it starts.
-#[derive(Clone, Copy, Debug, PartialEq, Eq)]
+#[derive(Clone, Copy)]
 pub enum Pending {
     /// Nothing of the text has been read.
     Start,

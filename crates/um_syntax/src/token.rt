@@ -186,7 +186,7 @@ impl From<AllocError> for LexStop {
 }
 
 /// Why bytes that were fed have no tokens. The place is that of the leftmost fault; bytes that aren't UTF-8 come first.
-#[derive(Clone, Copy, Debug, PartialEq, Eq, Error)]
+#[derive(Clone, Copy, Debug, Error)]
 pub enum TextStop {
     /// The bytes aren't UTF-8. The place is the length of the longest prefix that is.
     #[error("not UTF-8 at {at}")]

@@ -3,7 +3,7 @@ use crate::{Note, UnitNote};
 use um_frac::Frac;
 
 /// The operations of arithmetic.
-#[derive(Clone, Copy, PartialEq, Eq, Debug)]
+#[derive(Clone, Copy)]
 pub enum Arith {
     Add,
     Sub,
@@ -12,7 +12,7 @@ pub enum Arith {
 }
 
 /// The signs of comparison.
-#[derive(Clone, Copy, PartialEq, Eq, Debug)]
+#[derive(Clone, Copy)]
 pub enum Sign {
     /// `<`
     Lt,

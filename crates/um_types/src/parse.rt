@@ -19,7 +19,7 @@ use um_tree::{RawTypes, RawUnit};
 use um_unit_texts::{UnitReader, place};
 
 /// A limit of the language.
-#[derive(Clone, Copy, Debug, PartialEq, Eq)]
+#[derive(Clone, Copy, Debug)]
 pub enum LimitKind {
     Height,
     Functions,
@@ -32,7 +32,7 @@ pub enum LimitKind {
 }
 
 /// Why tokens are refused, with the place.
-#[derive(Clone, Copy, Debug, PartialEq, Eq, Error)]
+#[derive(Clone, Copy, Debug, Error)]
 pub enum ParseStop {
     #[error("no text of the grammar begins so, at {at}")]
     Syntax { at: u32 },

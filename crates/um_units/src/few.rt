@@ -12,8 +12,8 @@ const NONE: Term = Term {
 };
 
 /// At most two terms, which lie in the value itself.
-#[derive(Debug, Drop)]
-pub struct FewTerms {
+#[derive(Drop)]
+pub(crate) struct FewTerms {
     len: usize,
     terms: [Term; 2],
 }

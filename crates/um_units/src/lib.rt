@@ -44,21 +44,21 @@ use wide::WideTerm;
 pub type NoMemory = AllocError;
 
 /// A base unit or a unit variable, by its number. Base units come before variables, each kind by its number.
-#[derive(Clone, Copy, Debug, PartialEq, Eq, PartialOrd, Ord, Hash)]
+#[derive(Clone, Copy, PartialEq, Eq, PartialOrd, Ord, Hash)]
 pub enum Atom {
     Base(u32),
     Var(u32),
 }
 
 /// An atom and its power.
-#[derive(Clone, Copy, Debug, PartialEq, Eq, Hash)]
+#[derive(Clone, Copy, PartialEq, Eq)]
 pub struct Term {
     pub atom: Atom,
     pub power: i32,
 }
 
 /// Why an operation on units gives none.
-#[derive(Clone, Copy, Debug, PartialEq, Eq, Error)]
+#[derive(Clone, Copy, Debug, Error)]
 pub enum UnitStop {
     /// A power of the result lies outside -2147483647..2147483647.
     #[error("a power is out of range")]
@@ -91,7 +91,6 @@ impl From<AllocError> for UnitStop {
 }
 
 /// A unit: a finite map from atoms to powers other than 0.
-#[derive(Debug)]
 pub struct Unit {
     terms: Terms,
 }
@@ -333,7 +332,6 @@ fn inverted(alloc: Global, terms: &[Term]) -> Result<Terms, AllocError>
 }
 
 /// A list of units.
-#[derive(Debug)]
 pub struct Units {
     items: Vec<Unit>,
 }

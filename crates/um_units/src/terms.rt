@@ -8,7 +8,7 @@ use crate::few::FewTerms;
 use std::alloc::{AllocError, Global};
 use std::marker::Model;
 
-#[derive(Debug, Drop)]
+#[derive(Drop)]
 enum Storage {
     Few(FewTerms),
     Heap(Vec<Term>),
@@ -58,7 +58,6 @@ fn extend_stored(alloc: Global, storage: &mut Storage, terms: &[Term]) -> Result
 }
 
 /// A list of terms. At most two take no memory.
-#[derive(Debug)]
 pub(crate) struct Terms {
     storage: Storage,
 }

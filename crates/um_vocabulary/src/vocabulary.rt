@@ -4,7 +4,7 @@ ghost use Rattle.um_vocabulary.specs.Tables.{keyword_of, keywords, found_keyword
 ghost use Rattle.um_vocabulary.specs.Tables.{front_symbol};
 
 /// A reserved word.
-#[derive(Clone, Copy, Debug)]
+#[derive(Clone, Copy)]
 pub enum Keyword {
     Let,
     Rec,
@@ -26,7 +26,7 @@ pub enum Keyword {
 }
 
 /// A symbol. The docstring of each is its text.
-#[derive(Clone, Copy, Debug)]
+#[derive(Clone, Copy)]
 pub enum Symbol {
     /// `(`
     LeftParen,

@@ -12,7 +12,7 @@ use std::marker::Model;
 
 /// Takes bytes into a room of a fixed size, at most `piece` at a time. The calls that `fails` names fail, and so does
 /// each write into a full room.
-#[derive(Debug, Drop)]
+#[derive(Drop)]
 pub struct MemSink {
     bytes: Vec<u8>,
     room: usize,

@@ -10,7 +10,7 @@ use crate::{Failed, Source};
 use std::marker::Model;
 
 /// Gives the bytes of a vector, at most `piece` at a time. The calls that `fails` names fail.
-#[derive(Debug, Drop)]
+#[derive(Drop)]
 pub struct MemSource {
     bytes: Vec<u8>,
     at: usize,

@@ -9,7 +9,7 @@ use crate::{Failed, Sink, Source};
 use std::marker::Model;
 
 /// Gives the bytes of a vector, and never fails. Contracts see it as the bytes left.
-#[derive(Debug, Drop)]
+#[derive(Drop)]
 pub struct QuietSource {
     bytes: Vec<u8>,
     at: usize,
@@ -52,7 +52,7 @@ impl Source for QuietSource {
 
 /// Takes all bytes and keeps only how many, up to the greatest number of 64 bits. It never fails.
 /// Contracts see it as this number.
-#[derive(Debug, Drop)]
+#[derive(Drop)]
 pub struct QuietSink {
     count: u64,
 }

@@ -6,7 +6,7 @@ ghost use Rattle.std.specs.Io.KnownBytes.{ReadConsumes};
 ghost use Rattle.um_wire.specs.Faults.{Rose};
 
 /// A read or a write failed. The fault is counted at the source or the sink.
-#[derive(Clone, Copy, Debug, PartialEq, Eq)]
+#[derive(Clone, Copy)]
 pub struct Failed;
 
 /// Gives bytes, a piece at a time. Contracts see two things of it: the bytes left, if it tells them, and its count of

@@ -11,7 +11,7 @@ use std::marker::Model;
 
 /// A writer of std, flushed after each write. It counts a write or a flush that fails, and a write that takes no byte
 /// of a piece that isn't empty. It doesn't tell what was taken, since a failed flush may follow a write that was.
-#[derive(Debug, Drop)]
+#[derive(Drop)]
 pub struct StdSink<W: Write> {
     writer: W,
     faults: u64,

@@ -10,7 +10,7 @@ use std::io::Read;
 use std::marker::Model;
 
 /// A reader of std. It tells the bytes left if the reader does, and counts each read that fails.
-#[derive(Debug, Drop)]
+#[derive(Drop)]
 pub struct StdSource<R: Read> {
     reader: R,
     faults: u64,
