@@ -6,5 +6,6 @@ pub mod MeasureLists
 pub mod Scopes
 mod OneName
 mod UnitLoops
+mod NameNumbers
 mod RunningProducts
 pub mod BodyNotes

@@ -1,11 +1,9 @@
 -- Names in a list, by tests of their bytes.
-use Rattle.std.proofs.Common.{◌≡◌, ℕ, suc, Bool, true, false, ◌||◌, List, [], ◌∷◌, ◌++◌, map, cond, refl, sym, ap, ◌∙◌, not, nat_lt, length, ◌+◌, ◌<◌, arith}
+use Rattle.std.proofs.Common.{◌≡◌, ℕ, suc, Bool, true, false, ◌||◌, List, [], ◌∷◌, ◌++◌, map, cond, refl, sym, ap, ◌∙◌, length, ◌<◌, arith}
 use Rattle.std.specs.Prelude.{Option, Some, None, slice_get, option_map, is_some}
 use Rattle.std.specs.Global.{Vec}
-use Rattle.std.specs.List.{list_any, position, position_or_len}
 use Rattle.std.specs.Str.{bytes_eq}
 use Rattle.std.proofs.lemmas.List.{map-append}
-use Rattle.std.proofs.lemmas.Bool.Decides.{nat_tests}
 use Rattle.std.proofs.lemmas.Slice.Eq.{bytes_eq-Decides}
 use Rattle.um_units.specs.PowerMap.{PowerMap}
 use Rattle.um_measures.specs.declared.abbreviation.Abbreviation.{Abbreviation}
@@ -14,37 +12,6 @@ use Rattle.um_measures.specs.Known.{number_of, one_later, is_among, short_unit, 
 -- the bytes of each
 abbrev pub texts : List (Vec ℕ) → List (List ℕ)
 texts ks = map (λ k. k.items) ks
-
-pub is_among-texts : (x : List ℕ) (ks : List (Vec ℕ)) → list_any (λ k. bytes_eq x k.items) ks ≡ is_among (texts ks) x
-is_among-texts x [] = refl
-is_among-texts x (k ∷ ks) = ap (λ b. bytes_eq x k.items || b) (is_among-texts x ks)
-
-pub texts-insert : (x : Vec ℕ) (ks new : List (Vec ℕ)) → new ≡ cond (list_any (λ k. bytes_eq x.items k.items) ks) ks (ks ++ x ∷ [])
-    → texts new ≡ cond (is_among (texts ks) x.items) (texts ks) (texts ks ++ x.items ∷ [])
-texts-insert x ks new e = ap texts e ∙ by (list_any (λ k. bytes_eq x.items k.items) ks) (is_among (texts ks) x.items) (is_among-texts x.items ks) where
-  by : (b c : Bool) → b ≡ c → texts (cond b ks (ks ++ x ∷ [])) ≡ cond c (texts ks) (texts ks ++ x.items ∷ [])
-  by true true e = refl
-  by false false e = map-append (λ k. k.items) ks (x ∷ [])
-  by true false e = cc
-  by false true e = cc
-
-lt-next : (n l : ℕ) → nat_lt (1 + n) (suc l) ≡ nat_lt n l
-lt-next n l = grind (arith, nat_tests)
-
-lt-zero : (l : ℕ) → nat_lt 0 (suc l) ≡ true
-lt-zero l = grind (arith, nat_tests)
-
-position-cons : {X : Type 0} (p : X → Bool) (y : X) (ys : List X) → position p (y ∷ ys) ≡ cond (p y) (Some 0) (one_later (position p ys))
-position-cons p y ys = by (p y) (nat_lt (position_or_len p ys) (length ys)) refl where
-  by : (b c : Bool) → nat_lt (position_or_len p ys) (length ys) ≡ c
-      → cond (nat_lt (cond (not b) (1 + position_or_len p ys) 0) (length (y ∷ ys))) (Some (cond (not b) (1 + position_or_len p ys) 0)) None ≡ cond b (Some 0) (one_later (cond (nat_lt (position_or_len p ys) (length ys)) (Some (position_or_len p ys)) None))
-  by true c e = rw (lt-zero (length ys)) refl
-  by false true e = rw (lt-next (position_or_len p ys) (length ys), e) (ap Some (omega arith))
-  by false false e = rw (lt-next (position_or_len p ys) (length ys), e) refl
-
-pub number_of-texts : (x : List ℕ) (ks : List (Vec ℕ)) → position (λ k. bytes_eq x k.items) ks ≡ number_of (texts ks) x
-number_of-texts x [] = refl
-number_of-texts x (k ∷ ks) = position-cons (λ k. bytes_eq x k.items) k ks ∙ ap (λ o. cond (bytes_eq x k.items) (Some 0) (one_later o)) (number_of-texts x ks)
 
 pub is_among-number : (x : List ℕ) (names : List (List ℕ)) → is_among names x ≡ is_some (number_of names x)
 is_among-number x [] = refl

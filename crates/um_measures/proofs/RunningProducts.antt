@@ -9,7 +9,7 @@ use Rattle.std.proofs.lemmas.List.{take_more, take_all}
 use Rattle.std.proofs.Math.IntN.{+ℤ_idl, +ℤ_idr}
 use Rattle.um_units.specs.declared.UnitStop.{UnitStop}
 use Rattle.um_units.specs.declared.UnitStop.TheVariants.{Range, NoMemory}
-use Rattle.indexmap.specs.IndexMap.{IndexMap, get, Updates, IsEmpty}
+use Rattle.std.specs.HashMap.{HashMap, get, Updates, IsEmpty}
 use Rattle.um_units.specs.declared.Atom.{Atom}
 use Rattle.um_units.specs.declared.Atom.TheVariants.{Base, Var}
 use Rattle.um_units.specs.declared.Term.{Term}
@@ -39,7 +39,7 @@ same_atom_comm (Var m) (Base n) = refl
 same_atom_comm (Var m) (Var n) = grind (arith, nat_tests)
 
 -- the map looks atoms up by a test of its own
-pub get_is : {S : Type 0} (powers : IndexMap Atom ℤ S) (x : Atom) → get equality.eq-value.it powers x ≡ get same_atom powers x
+pub get_is : {S : Type 0} (powers : HashMap Atom ℤ S) (x : Atom) → get equality.eq-value.it powers x ≡ get same_atom powers x
 get_is powers x = ap (λ (test : Atom → Bool). lookup test powers.entries) (λ i y. eq_is x y i)
 
 or_zero-cond : (b : Bool) (z : ℤ) (o : Option ℤ) → or_zero (cond b (Some z) o) ≡ cond b z (or_zero o)
@@ -47,7 +47,7 @@ or_zero-cond true z o = refl
 or_zero-cond false z o = refl
 
 -- a power that is put is there, and the others stay
-pub raised : {S : Type 0} (old new : IndexMap Atom ℤ S) (t : Term) (z : ℤ) → Updates equality.eq-value.it old new t.atom (Some z) → z ≡ power_at old t.atom +ℤ t.power → Raises old new t
+pub raised : {S : Type 0} (old new : HashMap Atom ℤ S) (t : Term) (z : ℤ) → Updates equality.eq-value.it old new t.atom (Some z) → z ≡ power_at old t.atom +ℤ t.power → Raises old new t
 raised old new t z h e = λ x.
     ap or_zero (sym (get_is new x) ∙ h.0 x) ∙ or_zero-cond (equality.eq-value.it t.atom x) z (get equality.eq-value.it old x) ∙ (λ i. cond (eq_is t.atom x i) (e i) (or_zero (get_is old x i)))
 
@@ -62,7 +62,7 @@ power_in-push ts t x =
     ] refl
 
 -- the map follows a term that is added
-pub powers-push : {S : Type 0} (old new : IndexMap Atom ℤ S) (ts : List Term) (t : Term) → ArePowersOf old ts → Raises old new t → IsTrue (in_range (power_at old t.atom +ℤ t.power)) → ArePowersOf new (ts ++ t ∷ [])
+pub powers-push : {S : Type 0} (old new : HashMap Atom ℤ S) (ts : List Term) (t : Term) → ArePowersOf old ts → Raises old new t → IsTrue (in_range (power_at old t.atom +ℤ t.power)) → ArePowersOf new (ts ++ t ∷ [])
 powers-push old new ts t h r fit = record {
   same = λ x. r x ∙ (λ i. cond (same_atom t.atom x) (h.same t.atom i +ℤ t.power) (h.same x i)) ∙ sym (power_in-push ts t x);
   low =
@@ -73,7 +73,7 @@ powers-push old new ts t h r fit = record {
 }
 
 -- no terms
-pub powers-none : {S : Type 0} (powers : IndexMap Atom ℤ S) (ts : List Term) → IsEmpty powers → ts ≡ [] → ArePowersOf powers ts
+pub powers-none : {S : Type 0} (powers : HashMap Atom ℤ S) (ts : List Term) → IsEmpty powers → ts ≡ [] → ArePowersOf powers ts
 powers-none powers ts none e = subst (ArePowersOf powers) (sym e) (record {
   same = λ x. ap (λ es. or_zero (lookup (same_atom x) es)) none;
   low = λ x. omega arith;
@@ -101,11 +101,11 @@ power_of-times ts u x = power_of-mul (product ts) u x ∙ ap (λ n. n +ℤ power
 pub product-times : (ts : List Term) (u : PowerMap) → product (ts ++ u.terms) ≡ mul (product ts) u
 product-times ts u = same_unit _ _ (λ x. power_of-product (ts ++ u.terms) x ∙ weigh-++ (indicator x) ts u.terms ∙ sym (power_of-times ts u x))
 
-pub fits-powers : {S : Type 0} (powers : IndexMap Atom ℤ S) (ts : List Term) → ArePowersOf powers ts → IsTrue (fits (product ts))
+pub fits-powers : {S : Type 0} (powers : HashMap Atom ℤ S) (ts : List Term) → ArePowersOf powers ts → IsTrue (fits (product ts))
 fits-powers powers ts h = fits_from_powers (product ts) (λ x. subst (λ z. nat_abs z ≤ 2147483647) (sym (power_of-product ts x)) (h.low x))
 
 -- a power that leaves the range on the way stays outside
-left : {S : Type 0} (powers : IndexMap Atom ℤ S) (ts : List Term) (u : PowerMap) (i : ℕ) (t d : Term) → ArePowersOf powers (ts ++ take i u.terms) → i < length u.terms → t ≡ get_or u.terms i d
+left : {S : Type 0} (powers : HashMap Atom ℤ S) (ts : List Term) (u : PowerMap) (i : ℕ) (t d : Term) → ArePowersOf powers (ts ++ take i u.terms) → i < length u.terms → t ≡ get_or u.terms i d
     → IsFalse (in_range (power_at powers t.atom +ℤ t.power)) → IsFalse (fits (mul (product ts) u))
 left powers ts u i t d h below e out =
     let split = h.same t.atom ∙ weigh-++ (indicator t.atom) ts (take i u.terms) in
@@ -118,7 +118,7 @@ stops_too b c Range more h = more h
 stops_too b c NoMemory more h = h
 
 -- where a term of the unit can't be added
-pub range-left : {S : Type 0} (powers : IndexMap Atom ℤ S) (ts now us : List Term) (v u : PowerMap) (i : ℕ) (d : Term) (stop : UnitStop) → product ts ≡ v → us ≡ u.terms → ArePowersOf powers now → now ≡ ts ++ take i us
+pub range-left : {S : Type 0} (powers : HashMap Atom ℤ S) (ts now us : List Term) (v u : PowerMap) (i : ℕ) (d : Term) (stop : UnitStop) → product ts ≡ v → us ≡ u.terms → ArePowersOf powers now → now ≡ ts ++ take i us
     → i < length us → IsStopUnless (in_range (power_at powers (get_or us i d).atom +ℤ (get_or us i d).power)) stop → IsStopUnless (fits (mul v u)) stop
 range-left powers ts now us v u i d stop e f h g below out =
     let t = get_or us i d in
@@ -130,5 +130,5 @@ range-left powers ts now us v u i d stop e f h g below out =
 pub product-whole : (ts now us : List Term) (v u : PowerMap) (i : ℕ) → product ts ≡ v → us ≡ u.terms → now ≡ ts ++ take i us → length us ≤ i → product now ≡ mul v u
 product-whole ts now us v u i e f g whole = ap product (g ∙ ap (λ ws. ts ++ ws) (take_all i us whole ∙ f)) ∙ product-times ts u ∙ ap (λ w. mul w u) e
 
-pub fits-whole : {S : Type 0} (powers : IndexMap Atom ℤ S) (ts now us : List Term) (v u : PowerMap) (i : ℕ) → product ts ≡ v → us ≡ u.terms → ArePowersOf powers now → now ≡ ts ++ take i us → length us ≤ i → IsTrue (fits (mul v u))
+pub fits-whole : {S : Type 0} (powers : HashMap Atom ℤ S) (ts now us : List Term) (v u : PowerMap) (i : ℕ) → product ts ≡ v → us ≡ u.terms → ArePowersOf powers now → now ≡ ts ++ take i us → length us ≤ i → IsTrue (fits (mul v u))
 fits-whole powers ts now us v u i e f h g whole = subst (λ w. IsTrue (fits w)) (product-whole ts now us v u i e f g whole) (fits-powers powers now h)

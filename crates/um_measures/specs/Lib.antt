@@ -6,8 +6,10 @@ pub mod Wildcards
 pub mod ClosedUnits
 pub mod Variables
 pub mod Scopes
--- What mirrors the code: its refusals, how it stores abbreviations, its running products, its unit texts of one name.
+-- What mirrors the code: its refusals, how it stores abbreviations, the numbers of a table's names, its running
+-- products, its unit texts of one name.
 pub mod Stops
 pub mod AbbreviationCode
+pub mod NameNumbers
 pub mod RunningPowers
 pub mod SingleUnits

@@ -5,8 +5,8 @@ ghost use Rattle.um_units.specs.PowerMap.{one, mul};
 ghost use Rattle.um_units.specs.Range.{fits, in_range, RangeUnless};
 ghost use Rattle.um_measures.specs.RunningPowers.{power_at, Raises};
 
-use indexmap::IndexMap;
 use std::alloc::{AllocError, Global};
+use std::collections::HashMap;
 use std::marker::Model;
 use um_units::{Atom, Term, Unit, UnitStop};
 
@@ -18,7 +18,7 @@ pub struct RunningProduct {
     /// The terms of all units so far, in which an atom may stand more than once.
     terms: Vec<Term>,
     /// The power of each atom in their product.
-    powers: IndexMap<Atom, i32>,
+    powers: HashMap<Atom, i32>,
 }
 
 // A derived drop would be proved anew in each crate that lets products go. This one is proved here.
@@ -50,7 +50,7 @@ impl RunningProduct {
     pub fn new(alloc: Global) -> RunningProduct
         ensures { result ≡ one }
     {
-        let powers = IndexMap::new(alloc);
+        let powers = HashMap::new(alloc);
         RunningProduct {
             terms: Vec::new(alloc),
             powers,
@@ -87,7 +87,7 @@ impl RunningProduct {
 }
 
 /// The power of an atom, which is 0 where there is none.
-fn power_at(powers: &IndexMap<Atom, i32>, atom: Atom) -> i32
+fn power_at(powers: &HashMap<Atom, i32>, atom: Atom) -> i32
     ensures { result ≡ power_at powers.now atom }
 {
     match powers.get(&atom) {
@@ -97,7 +97,7 @@ fn power_at(powers: &IndexMap<Atom, i32>, atom: Atom) -> i32
 }
 
 /// Adds the term's power to that of its atom. Range comes exactly where the sum is out of range.
-fn raise(powers: &mut IndexMap<Atom, i32>, term: Term) -> Result<(), UnitStop>
+fn raise(powers: &mut HashMap<Atom, i32>, term: Term) -> Result<(), UnitStop>
     ensures exact { OnOk result (Raises powers.old powers.new term) }
     ensures range { RangeUnless result (in_range (power_at powers.old term.atom +ℤ term.power)) }
 {

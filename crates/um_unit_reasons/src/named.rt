@@ -1,8 +1,8 @@
 //! Named variables that stand in types.
 
-ghost use Rattle.std.specs.Prelude.{◌≡◌, ◌<◌, ◌++◌, [], IfOk, OnOk, None, length, map, slice_index_or};
+ghost use Rattle.std.specs.Prelude.{◌≡◌, ◌++◌, [], IfOk, OnOk, None, map, slice_index_or};
 ghost use Rattle.um_tree.specs.TypeTree.{type_tree};
-ghost use Rattle.um_unit_reasons.specs.VariableNames.{written, with_variable, named_from};
+ghost use Rattle.um_unit_reasons.specs.VariableNames.{with_variable, named_from};
 ghost use Rattle.um_unit_reasons.specs.TypeTexts.{named_types};
 
 use crate::letters::written;
@@ -26,50 +26,37 @@ pub(crate) fn named_by(
 ) -> Result<Vec<Named>, AllocError>
     ensures { IfOk result (λ named. named.items ≡ named_from (λ v. slice_index_or variables.now v None) 0 names.now) }
 {
+    let texts = names.in_order(alloc)?;
     let mut named = Vec::new(alloc);
-    for v in 0..names.count() {
-        push_named(alloc, names, variables, v, &mut named)?;
+    for v in 0..texts.len() {
+        push_named(alloc, texts[v], variable_at(variables, v), &mut named)?;
     }
     Ok(named)
 }
 
-/// Adds the named variable of this number, if a variable stands for it.
+/// Adds the named variable, if a variable stands for it.
 fn push_named(
     alloc: Global,
-    names: &NameTable,
-    variables: &[Option<u32>],
-    v: u32,
+    name: &[u8],
+    variable: Option<u32>,
     named: &mut Vec<Named>,
 ) -> Result<(), AllocError>
-    requires { v < length names.now }
-    ensures { OnOk result (named.new.items ≡ named.old.items
-        ++ with_variable (slice_index_or variables.now v None) (slice_index_or names.now v []) []) }
+    ensures { OnOk result (named.new.items ≡ named.old.items ++ with_variable variable name.now []) }
 {
-    let Some(variable) = variable_at(variables, v) else {
+    let Some(variable) = variable else {
         return Ok(());
     };
-    let text = written_name(alloc, names, v)?;
+    let text = written(alloc, name)?;
     named.push(Named { text, variable })?;
     Ok(())
 }
 
-fn variable_at(variables: &[Option<u32>], v: u32) -> Option<u32>
+fn variable_at(variables: &[Option<u32>], v: usize) -> Option<u32>
     ensures { result ≡ slice_index_or variables.now v None }
 {
-    match variables.get(v as usize) {
+    match variables.get(v) {
         Some(variable) => *variable,
         None => None,
-    }
-}
-
-/// The name of this number, as it is written.
-fn written_name(alloc: Global, names: &NameTable, v: u32) -> Result<Name, AllocError>
-    requires { v < length names.now }
-    ensures { IfOk result (λ text. text ≡ written (slice_index_or names.now v [])) }
-{
-    match names.name(v) {
-        Some(name) => written(alloc, name),
-        None => unreachable!(),
     }
 }
 

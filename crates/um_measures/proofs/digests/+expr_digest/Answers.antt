@@ -1,9 +1,8 @@
-use Rattle.std.proofs.Common.{rules, inl, inr, ◌≡◌, ◌++◌, List, ap, map, drop, ◌+◌}
-use Rattle.um_tree.specs.declared.raw.RawNode.{the_lemmas}
+use Rattle.std.proofs.Common.{List, ap, map, drop, ◌+◌}
 use Rattle.um_tree.specs.RawTree.{ExprSyntax, FieldPart, expr_syntax, exprs_in_order, field_part, fields_in_order}
 use Rattle.um_measures.specs.Variables.{expr_variables, exprs_variables, fields_variables}
 use Rattle.um_measures.proofs.Stages.{map_from_more}
-use Rattle.um_measures.proofs.BodyNotes.{both_none, none_next}
+use Rattle.um_measures.proofs.BodyNotes.{none_next}
 use Rattle.um_measures.proofs.digests.+expr_digest.Goals as goal
 
 pub in_exprs-loop-i-preserved : goal.in_exprs-loop-i-preserved
