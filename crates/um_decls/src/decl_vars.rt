@@ -15,7 +15,7 @@ use um_unit_texts::name_of;
 
 /// The token that is expected among unit parameters, if it is none of them.
 #[derive(Clone, Copy)]
-pub enum FixedVarToken {
+pub(crate) enum FixedVarToken {
     /// After `<` or `,`; `[<`; `Measure`; `>`; a parameter
     Begin,
     Word,
@@ -26,14 +26,14 @@ pub enum FixedVarToken {
 
 /// What is expected among unit parameters: a token that is none, or a parameter.
 #[derive(Clone, Copy)]
-pub enum VarExpected {
+pub(crate) enum VarExpected {
     Token(FixedVarToken),
     Name,
 }
 
 /// What a token among unit parameters gives: this is expected after it, or they end with it, or it is refused.
 #[derive(Clone, Copy)]
-pub enum VarTaken {
+pub(crate) enum VarTaken {
     Goes(VarExpected),
     Ends,
     Stops,

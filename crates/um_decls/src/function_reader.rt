@@ -23,7 +23,7 @@ use um_unit_texts::name_of;
 
 /// The body of a function, and its result type, if it has one, not too high.
 #[derive(Drop)]
-pub struct FunctionBody {
+pub(crate) struct FunctionBody {
     result: Option<RawType>,
     body: ExprReader,
     ghost low: { result_height (written_type result) ≤ greatest_height },
@@ -31,7 +31,7 @@ pub struct FunctionBody {
 
 /// What is expected in a function.
 #[derive(Drop)]
-pub enum FunctionExpected {
+pub(crate) enum FunctionExpected {
     /// What follows the name; a token among the unit parameters
     Named,
     Var(VarExpected),

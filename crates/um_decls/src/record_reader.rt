@@ -23,7 +23,7 @@ use um_unit_texts::name_of;
 
 /// What is expected in a record.
 #[derive(Drop)]
-pub enum FieldExpected {
+pub(crate) enum FieldExpected {
     /// What follows the record's name; a token among the unit parameters; `=` after them; `{`
     Named,
     Var(VarExpected),

@@ -17,7 +17,7 @@ use um_units::{Atom, Unit, UnitStop};
 
 /// A variable, a unit that is put for it and doesn't hold it, and that unit over the variable.
 #[derive(Clone, Copy)]
-pub struct Replacement<'a> {
+pub(crate) struct Replacement<'a> {
     pub variable: u32,
     pub factor: &'a Unit,
     pub change: &'a Unit,

@@ -25,7 +25,7 @@ use um_pivots::{has_base_unit, has_other_variable};
 use um_units::{Atom, Unit, UnitStop};
 
 /// What is to be done after an elimination step.
-pub enum AfterStep {
+pub(crate) enum AfterStep {
     /// Another step, of what is left of the unit.
     Again(Unit),
     /// Nothing: the row is solved.

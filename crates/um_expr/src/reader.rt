@@ -38,7 +38,7 @@ use um_unit_texts::name_of;
 /// What is read inside the focus, at its place: nothing, the note of a number with this value, or the type of an empty
 /// list.
 #[derive(Drop)]
-pub enum Inner {
+pub(crate) enum Inner {
     Nothing,
     Note(u32, Frac, NoteReader),
     Type(u32, TypeReader),

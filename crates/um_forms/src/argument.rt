@@ -29,7 +29,7 @@ pub fn in_call(frames: &Frames) -> bool
 
 /// What an operand before an atom becomes: a part of a call, and its box is free for the atom, or it is handed back.
 #[derive(Drop)]
-pub enum Before {
+pub(crate) enum Before {
     Called(Box<RawExpr>),
     Back(Operand),
 }

@@ -14,7 +14,7 @@ use um_units::{Atom, Term, Unit, UnitStop};
 const MAX_POWER: u64 = 2147483647;
 
 /// A product that grows by one unit after another. Each step takes time linear in that unit alone.
-pub struct RunningProduct {
+pub(crate) struct RunningProduct {
     /// The terms of all units so far, in which an atom may stand more than once.
     terms: Vec<Term>,
     /// The power of each atom in their product.

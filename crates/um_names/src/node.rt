@@ -25,7 +25,7 @@ use um_wildcards::open_unit;
 /// What is known in the body of a function beside the declarations before it: the unit variables of its notes, and
 /// the function itself where it is `rec`.
 #[derive(Drop)]
-pub struct Body {
+pub(crate) struct Body {
     pub variables: NameTable,
     pub own: Option<Callable>,
 }

@@ -15,7 +15,7 @@ use um_tree::{Note, RawParam};
 
 /// The notes of parameters, and the scope of their names.
 #[derive(Drop)]
-pub struct Parameters {
+pub(crate) struct Parameters {
     pub notes: Vec<Note>,
     pub scope: Scope,
 }

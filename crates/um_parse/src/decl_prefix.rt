@@ -2,7 +2,7 @@
 
 /// The token that is expected before the name of a declaration, if no name may stand there.
 #[derive(Clone, Copy)]
-pub enum FixedToken {
+pub(crate) enum FixedToken {
     /// Nothing was read; after `[<`; `Measure`; `>`; `]`
     Begin,
     Word,
@@ -13,7 +13,7 @@ pub enum FixedToken {
 
 /// What is expected of a declaration up to its name.
 #[derive(Clone, Copy)]
-pub enum DeclExpected {
+pub(crate) enum DeclExpected {
     Token(FixedToken),
     /// A name: that of a measure; of a record; of a function after `let`, where `rec` may stand; after `rec`
     BaseName,

@@ -28,7 +28,7 @@ use um_unit_texts::{UnitReader, name_of};
 
 /// How far a declaration was read.
 #[derive(Drop)]
-pub enum DeclPlace {
+pub(crate) enum DeclPlace {
     /// What was read has refused a token, and no declaration ends there
     Nothing,
     /// Before the name
@@ -43,7 +43,7 @@ pub enum DeclPlace {
 
 /// A declaration that has begun, and the reader of functions, which serves one function after another.
 #[derive(Drop)]
-pub struct DeclReader {
+pub(crate) struct DeclReader {
     place: DeclPlace,
     function: FunctionReader,
 }

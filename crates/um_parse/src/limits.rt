@@ -24,7 +24,7 @@ const MOST_NODES: u32 = 20000;
 
 /// The first limit that a program passes, and the place of the declaration's name.
 #[derive(Clone, Copy)]
-pub struct Passed {
+pub(crate) struct Passed {
     pub kind: LimitKind,
     pub at: u32,
 }

@@ -2,7 +2,7 @@
 
 /// Whether each token that was read begins after the one before it, and the first place after the last one's.
 #[derive(Clone, Copy)]
-pub struct Places {
+pub(crate) struct Places {
     rise: bool,
     next: u64,
 }

@@ -82,7 +82,7 @@ pub fn parse(alloc: Global, tokens: &[Token], end: u32) -> Result<RawProgram, Pa
 
 /// A program, and whether it is known that each function has room for its nodes in the text.
 #[derive(Drop)]
-pub struct ReadProgram {
+pub(crate) struct ReadProgram {
     pub program: RawProgram,
     pub spaced: bool,
 }

@@ -11,7 +11,7 @@ use um_syntax::{Kind, Token};
 use um_tree::{RawDecl, RawProgram};
 
 /// A program that has begun: the declarations before the last one, and that one.
-pub struct ProgramReader {
+pub(crate) struct ProgramReader {
     decls: Vec<RawDecl>,
     last: DeclReader,
 }

@@ -30,7 +30,7 @@ use um_units::{Atom, NoMemory, Term, Unit, UnitStop};
 
 /// A solution whose variables are numbered, and the inverse substitution of them.
 #[derive(Drop)]
-pub struct Renaming {
+pub(crate) struct Renaming {
     pub vars: u32,
     pub solution: Vec<Unit>,
     pub back: Vec<Unit>,

@@ -9,7 +9,7 @@ use um_tree::{Binder, Name, Names};
 
 /// A name with its place, and how many units or arguments it takes.
 #[derive(Drop)]
-pub struct Named {
+pub(crate) struct Named {
     pub at: u32,
     pub name: Name,
     pub parts: usize,

@@ -15,7 +15,7 @@ use um_tree::{Name, RawDecl, RawFieldDecl, RawFunction, RawParam, RawVar};
 
 /// A space of names. Measures, abbreviations and records share the space of types.
 #[derive(Clone, Copy)]
-pub enum Space {
+pub(crate) enum Space {
     Types,
     Measures,
     Records,

@@ -6,7 +6,7 @@ use std::str;
 
 /// What bytes that are at most one character are.
 #[derive(Clone, Copy)]
-pub enum Decoded {
+pub(crate) enum Decoded {
     /// A character.
     Whole(char),
     /// The beginning of what may be a character.

@@ -19,7 +19,7 @@ const GREATEST_POWER: u128 = 2147483647;
 
 /// How much of a number's text has been read.
 #[derive(Clone, Copy)]
-pub enum Part {
+pub(crate) enum Part {
     /// Digits.
     Whole,
     /// Digits and a point.
@@ -69,7 +69,7 @@ impl Part {
 ///
 /// The two stand still at `GREATEST`, and the count stands still once it has passed `MOST_DIGITS`.
 #[derive(Clone, Copy)]
-pub struct Figures {
+pub(crate) struct Figures {
     pub above: u128,
     pub below: u128,
     pub count: u32,
@@ -173,7 +173,7 @@ impl Figures {
 /// The number's text at the front of bytes, as far as it goes: how many bytes it has, and of these those up to the last
 /// digit.
 #[derive(Clone, Copy)]
-pub struct NumberText {
+pub(crate) struct NumberText {
     pub len: usize,
     pub end: usize,
     pub part: Part,

@@ -12,7 +12,7 @@ use unicode_ident::{is_xid_continue, is_xid_start};
 
 /// What has been read of the token that may go on, with the place where it starts.
 #[derive(Clone, Copy)]
-pub enum Pending {
+pub(crate) enum Pending {
     /// Nothing of the text has been read.
     Start,
     /// No token has begun.

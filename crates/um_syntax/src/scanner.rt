@@ -23,7 +23,7 @@ use unicode_ident::is_xid_continue;
 
 /// The state between two characters.
 #[derive(Drop)]
-pub struct Scanner {
+pub(crate) struct Scanner {
     alloc: Global,
     // The place of the next character.
     at: u32,

@@ -18,7 +18,7 @@ use um_draft::Draft;
 
 /// What stands above a line.
 #[derive(Clone, Copy)]
-pub enum Above {
+pub(crate) enum Above {
     /// Nothing but blank lines.
     Nothing,
     /// A line that isn't blank.

@@ -52,7 +52,7 @@ pub enum Within {
 
 /// What a token is to the tokens beside it.
 #[derive(Clone, Copy)]
-pub struct Stand {
+pub(crate) struct Stand {
     /// It stands directly after the token before it.
     pub after: bool,
     /// It stands directly before the next token.

@@ -18,7 +18,7 @@ use um_unit_texts::{Operand, UnitReader, can_begin, can_follow, is_foreign};
 
 /// What was read of a note: nothing, `_`, or a unit text at this place, which is an atom so far or has gone on.
 #[derive(Drop)]
-pub enum NoteFocus {
+pub(crate) enum NoteFocus {
     Empty,
     Hole(u32),
     Atom(u32, Operand),

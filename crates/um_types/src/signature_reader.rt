@@ -11,7 +11,7 @@ use um_tree::{RawType, RawTypes};
 
 /// A signature text that has begun: the types before the last `->`, and the one after it.
 #[derive(Drop)]
-pub struct SignatureReader {
+pub(crate) struct SignatureReader {
     earlier: Vec<RawType>,
     last: TypeReader,
 }

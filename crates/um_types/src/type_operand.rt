@@ -12,7 +12,7 @@ use um_unit_texts::name_of;
 
 /// A type text and its height.
 #[derive(Drop)]
-pub struct TypeOperand {
+pub(crate) struct TypeOperand {
     pub ty: RawType,
     pub height: u32,
     ghost exact: { height ≡ type_height (type_syntax ty) },
@@ -20,14 +20,14 @@ pub struct TypeOperand {
 
 /// What angle brackets belong to: `num`, or a name with the notes before the comma.
 #[derive(Drop)]
-pub enum Owner {
+pub(crate) enum Owner {
     Num,
     Name(u32, Name, RawNotes),
 }
 
 /// What stands inside the open brackets: nothing, a type, or what the note that has begun belongs to.
 #[derive(Drop)]
-pub enum TypeFocus {
+pub(crate) enum TypeFocus {
     Empty,
     Full(TypeOperand),
     Note(Owner),

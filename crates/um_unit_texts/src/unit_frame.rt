@@ -11,7 +11,7 @@ use std::mem;
 
 /// A unit text that has begun, up to the part that is read next.
 #[derive(Drop)]
-pub enum Frame {
+pub(crate) enum Frame {
     InBracket(u32),
     InInverse(u32),
     InTimes(Operand),
@@ -21,14 +21,14 @@ pub enum Frame {
 
 /// An open frame, and the least height that the parts in it and in the frames around it ask for, counted.
 #[derive(Drop)]
-pub struct Entry {
+pub(crate) struct Entry {
     pub frame: Frame,
     pub least: u32,
 }
 
 /// What stands inside the frames: nothing, an atom or a power, or an atom with `^`, or with `^` and `-`.
 #[derive(Drop)]
-pub enum Focus {
+pub(crate) enum Focus {
     Empty,
     Full(Operand),
     Raised(Operand),
@@ -37,7 +37,7 @@ pub enum Focus {
 
 /// A token goes on, or the text stops before it.
 #[derive(Clone, Copy)]
-pub enum Step {
+pub(crate) enum Step {
     Goes,
     Stops,
 }

@@ -9,7 +9,7 @@ use std::alloc::{AllocError, Global};
 
 /// The open frames, the innermost last.
 #[derive(Drop)]
-pub struct Frames {
+pub(crate) struct Frames {
     pub entries: Vec<Entry>,
     ghost based: { map entry_least (reverse entries.items) ≡ bases (stack entries.items) },
 }

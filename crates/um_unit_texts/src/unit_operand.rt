@@ -22,7 +22,7 @@ pub struct Operand {
 
 /// The first unit texts of a juxtaposition and the height of the highest, counted.
 #[derive(Drop)]
-pub struct Operands {
+pub(crate) struct Operands {
     pub units: Vec<RawUnit>,
     pub height: u32,
     ghost counted_height: { height ≡ counted (tallest_unit (units_in_order (map unit_syntax units.items))) },

@@ -5,7 +5,7 @@ use um_tree::RawNote;
 /// A value text.
 #[cycle(raw_value)]
 #[derive(Drop)]
-pub enum RawValue {
+pub(crate) enum RawValue {
     Bool(bool),
     /// A number: its place, whether `-` stands before it, its digits, and what stands between `<` and `>`, if anything
     Num(u32, bool, Frac, Option<RawNote>),
@@ -17,6 +17,6 @@ pub enum RawValue {
 /// Some value texts, in order.
 #[cycle(raw_value)]
 #[derive(Drop)]
-pub struct RawValues {
+pub(crate) struct RawValues {
     pub items: Vec<RawValue>,
 }
