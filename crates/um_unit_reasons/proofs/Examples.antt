@@ -1,16 +1,15 @@
 -- What is told, by computation of the definitions: of `x + 1<m>`, then `y + 1<s>`, then `x + y`.
-use Rattle.std.proofs.Common.{◌≡◌, ℕ, ℤ, pos, negsuc, Bool, false, List, [], ◌∷◌, map, codes, Option, Some, None, refl}
+use Rattle.std.proofs.Common.{◌≡◌, ℕ, ℤ, pos, negsuc, false, List, [], ◌∷◌, map, codes, Option, Some, None, refl}
 use Rattle.um_units.specs.declared.Atom.TheVariants.{Base, Var}
 use Rattle.um_units.specs.declared.Term.{Term}
-use Rattle.um_units.specs.PowerMap.{PowerMap, product}
+use Rattle.um_units.specs.PowerMap.{product}
 use Rattle.um_tree.specs.TypeTree.{num_type}
-use Rattle.um_tree.specs.ProgramTree.{ProgramTree}
 use Rattle.um_equal_types.specs.declared.row.Row.{Row}
 use Rattle.um_agree.specs.declared.rule.Rule.TheVariants as asks
 use Rattle.um_agree.specs.Agreements.{Agreement}
 use Rattle.um_unit_reasons.specs.declared.reason.Told.{Told}
 use Rattle.um_unit_reasons.specs.VariableNames.{letter, letters}
-use Rattle.um_unit_reasons.specs.UnitReasons.{UnitReason, told_of, out_of_range, others_before, Refusal, core_reason}
+use Rattle.um_unit_reasons.specs.UnitReasons.{UnitReason, told_of, out_of_range, Refusal, core_reason}
 
 -- ---- letters: a name is passed over
 first_letters : letters (codes "a" ∷ []) 2 ≡ codes "b" ∷ codes "c" ∷ []

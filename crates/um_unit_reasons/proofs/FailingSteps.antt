@@ -1,5 +1,5 @@
 -- From the core of a function's rows to what is told of it.
-use Rattle.std.proofs.Common.{◌≡◌, ◌⊎◌, inl, inr, ℕ, suc, ◌+◌, ◌-◌, ◌<◌, ◌≤◌, Bool, true, nat_lt, ◌&&◌, List, [], ◌∷◌, map, take, length, get_or, slice_get, Option, Some, Err, refl, sym, ap, ◌∙◌, subst, arith}
+use Rattle.std.proofs.Common.{◌≡◌, inl, ℕ, suc, ◌-◌, ◌<◌, ◌≤◌, Bool, nat_lt, ◌&&◌, List, [], ◌∷◌, map, length, slice_get, Option, Some, sym, ap, ◌∙◌, subst, arith}
 use Rattle.std.specs.Prelude.{All, IsTrue, Contains}
 use Rattle.std.specs.List.{list_all}
 use Rattle.std.proofs.lemmas.Bool.Decides.{nat_tests}
@@ -23,11 +23,11 @@ use Rattle.um_agree.specs.Laws.{HoldsSlots}
 use Rattle.um_agree.specs.RowAgreements.{agreement_of}
 use Rattle.um_agree.specs.Answers.{agreement_tree, agreement_fits}
 use Rattle.um_reasons.proofs.ReasonLaws.{told_types_hold_slots}
-use Rattle.um_reasons.specs.Reasons.{Reason, disagree, units_pass, reason}
+use Rattle.um_reasons.specs.Reasons.{Reason, disagree, reason}
 use Rattle.um_unit_reasons.specs.declared.failing.Failing.{Failing}
 use Rattle.um_unit_reasons.specs.declared.others.CoreAgreements.{CoreAgreements}
 use Rattle.um_unit_reasons.specs.declared.reason.Told.{Told}
-use Rattle.um_unit_reasons.specs.UnitReasons.{Refusal, UnitReason, told_of, out_of_range, nth_agreement, others_before, types_of, last_row, last, others, own_types, told_types, by_reason, core_reason, fit, IsOfCore, IsUnitReason}
+use Rattle.um_unit_reasons.specs.UnitReasons.{Refusal, UnitReason, told_of, nth_agreement, others_before, types_of, last_row, last, others, own_types, told_types, by_reason, core_reason, fit, IsOfCore}
 use Rattle.um_unit_reasons.specs.Answers.{told_trees, refusal_of, IsSound, HaveSlots, AreAllOf}
 
 -- ---- agreements hold slots alone

@@ -1,6 +1,6 @@
 -- What is told of a function that is refused for units is one.
 use Rattle.std.proofs.Common.{◌≡◌, ◌⊎◌, inl, inr, ℕ, zero, suc, ◌-◌, ◌<◌, ◌≤◌, Bool, true, false, cond, not, ◌&&◌, ◌||◌, nat_eq, IsTrue, List, [], ◌∷◌, ◌++◌, map, length, get_or, Some, refl, sym, ap, subst, ◌∙◌, arith}
-use Rattle.std.specs.Prelude.{IsFalse, Contains, All}
+use Rattle.std.specs.Prelude.{Contains, All}
 use Rattle.std.specs.List.{list_any, list_all}
 use Rattle.std.proofs.lemmas.Bool.{cases_lt, eqb-true, eq-eqb}
 use Rattle.std.proofs.lemmas.List.{length-map}
@@ -8,11 +8,11 @@ use Rattle.std.proofs.lemmas.List.Elements.{All-nil, All-cons, All-contains}
 use Rattle.std.proofs.lemmas.List.Folds.{list_any-append, list_any_at}
 use Rattle.um_units.specs.PowerMap.{PowerMap}
 use Rattle.um_tree.specs.RawTree.{DeclSyntax}
-use Rattle.um_tree.specs.ProgramTree.{FunctionTree, ProgramTree, SchemeTree}
+use Rattle.um_tree.specs.ProgramTree.{ProgramTree}
 use Rattle.um_elim.proofs.Cases.{on_test}
 use Rattle.um_elim.specs.Solution.{parameter_rows}
 use Rattle.um_equal_types.specs.declared.row.Row.{Row}
-use Rattle.um_rows.specs.Judgement.{Judgement, has_no_typing, not_general, judge}
+use Rattle.um_rows.specs.Judgement.{judge}
 use Rattle.um_equal_types.specs.Steps.{units_of}
 use Rattle.um_reasons.specs.Core.{IsGrown, IsBegun, IsCore}
 use Rattle.um_reasons.proofs.CoreLemmas.{one_core}
@@ -20,7 +20,6 @@ use Rattle.um_agree.specs.Agreements.{Agreement}
 use Rattle.um_agree.specs.RowAgreements.{agreement_of}
 use Rattle.um_agree.specs.Answers.{agreement_fits}
 use Rattle.um_infer.specs.Inference.{all_schemes}
-use Rattle.um_infer.specs.Schemes.{IsJudged}
 use Rattle.um_unit_reasons.specs.VariableNames.{function_variables}
 use Rattle.um_unit_reasons.specs.UnitReasons.{UnitReason, Refusal, nth_agreement, is_news, others_before, IsPastIn, bases, last_row, last, others, fit, IsOfCore, IsUnitReason, refusal, unsolvable, rigid_parameters, IsReasonOf}
 

@@ -1,4 +1,4 @@
-use Rattle.std.proofs.Common.{◌-◌, ◌+◌, map, length, sym, ap, ◌∙◌, subst, arith}
+use Rattle.std.proofs.Common.{◌-◌, ◌+◌, map, sym, ap, ◌∙◌, subst, arith}
 use Rattle.std.proofs.lemmas.List.{length-map, get_or-map}
 use Rattle.um_tree.specs.RawTree.{decl_syntax, whole_function_syntax}
 use Rattle.um_unit_reasons.proofs.NameSteps.{FunctionsLeft, next_function, this_function}
