@@ -11,8 +11,8 @@ ghost use Rattle.um_proof.specs.Laws.{CertifiedOverDeclaredUnits, CertificatesSh
 
 /// The rows and the types of a function of a formed program whose functions have their shapes hold base units that the
 /// program declares, and no others, if the functions before it have the schemes that are inferred for them; and so do
-/// these schemes. The rows are at most 220,000. So no equation holds the base unit that stands for a unit parameter in a
-/// certificate.
+/// these schemes. The rows are at most 220,000. So no equation holds the base unit that stands for a unit parameter in
+/// a certificate.
 pub fn equations()
     ensures rows { RowsHoldDeclaredUnits }
     ensures types { TypesHoldDeclaredUnits }

@@ -1,5 +1,5 @@
--- What a reader must trust: the core of rows without a joint solution, what is told of the agreement that fails, and the
--- answer.
+-- What a reader must trust: the core of rows without a joint solution, what is told of the agreement that fails, and
+-- the answer.
 pub mod Core
 pub mod Reasons
 pub mod Answers

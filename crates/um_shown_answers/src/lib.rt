@@ -1,5 +1,5 @@
-//! The answers to orders that show people how a call ends: its value with decimals, in units of their choice, or where it
-//! stops.
+//! The answers to orders that show people how a call ends: its value with decimals, in units of their choice, or where
+//! it stops.
 //!
 //! ```
 //! let call = CallWords { budget: 100, name: "mean", texts: &texts };

@@ -1,5 +1,5 @@
--- What a reader must trust, in reading order: words and their texts, which of them could stand at a place, texts without
--- tokens, limits, and tokens that are no program.
+-- What a reader must trust, in reading order: words and their texts, which of them could stand at a place, texts
+-- without tokens, limits, and tokens that are no program.
 pub mod Words
 pub mod Expected
 pub mod TextDetails
