@@ -57,6 +57,7 @@ fn put_in_units(alloc: Global, by: &[Unit], units: &Units) -> Result<Units, Unit
     ensures range { RangeUnless result (list_all fits (map (replace (nth by.now)) units.now)) }
 {
     let mut items = Vec::new(alloc);
+    items.reserve(units.as_slice().len())?;
     for unit in units.as_slice() {
         items.push(unit.replace(alloc, by)?)?;
     }

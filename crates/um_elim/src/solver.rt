@@ -164,6 +164,7 @@ fn first_units(
     ensures { IfOk result (λ units. units.items ≡ rigid_units bases parameters slots) }
 {
     let mut units = Vec::new(alloc);
+    units.reserve(slots as usize)?;
     for slot in 0..slots {
         units.push(first_unit(alloc, slot, bases, parameters)?)?;
     }
@@ -186,6 +187,7 @@ fn first_index(alloc: Global, slots: u32, parameters: u32) -> Result<Vec<SlotLis
         ≡ map (λ k. if nat_lt k parameters then [] else k ∷ []) (range_with_len 0 slots)) }
 {
     let mut index = Vec::new(alloc);
+    index.reserve(slots as usize)?;
     for slot in 0..slots {
         index.push(first_holders(alloc, slot, parameters)?)?;
     }

@@ -84,6 +84,7 @@ fn generalised_units(
     ensures { IfOk result (λ us. us ≡ map (unit_in_place bases parameters slots) units.now) }
 {
     let mut items = Vec::new(alloc);
+    items.reserve(units.as_slice().len())?;
     for unit in units.as_slice() {
         items.push(generalised_unit(alloc, bases, parameters, slots, unit)?)?;
     }
@@ -130,6 +131,7 @@ fn generalised_types(
         ≡ map (moved (unit_in_place bases parameters slots)) (map type_tree types.now)) }
 {
     let mut items = Vec::new(alloc);
+    items.reserve(types.len())?;
     for ty in types {
         items.push(generalised_type(alloc, bases, parameters, slots, ty)?)?;
     }

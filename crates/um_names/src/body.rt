@@ -53,6 +53,7 @@ fn parts(lookup: &Lookup, scope: &mut Scope, items: Vec<RawExpr>) -> Result<Vec<
     ensures scope { OnOk result (scope.new ≡ scope.old) }
 {
     let mut es = Vec::new(lookup.alloc);
+    es.reserve(items.len())?;
     for item in items {
         es.push(part(lookup, scope, item)?)?;
     }

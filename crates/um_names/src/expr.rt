@@ -283,6 +283,7 @@ fn exprs(lookup: &Lookup, scope: &mut Scope, items: &[RawExpr]) -> Result<Vec<Ex
     ensures scope { OnOk result (scope.new ≡ scope.old) }
 {
     let mut es = Vec::new(lookup.alloc);
+    es.reserve(items.len())?;
     for i in 0..items.len() {
         es.push(expr(lookup, scope, &items[i])?)?;
     }
@@ -302,6 +303,7 @@ fn field_values(
     ensures scope { OnOk result (scope.new ≡ scope.old) }
 {
     let mut es = Vec::new(lookup.alloc);
+    es.reserve(fields.len())?;
     for i in 0..fields.len() {
         es.push(field_value(lookup, scope, &fields[i])?)?;
     }

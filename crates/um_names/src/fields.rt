@@ -56,6 +56,7 @@ pub fn field_decls(
 {
     let mut own = NameTable::with_digest(alloc, fields_digest(raw));
     let mut fields = Vec::new(alloc);
+    fields.reserve(raw.len())?;
     for text in raw {
         fields.push(field_decl(alloc, tables, variables, &own, text)?)?;
         own.add(alloc, text.name.as_slice())?;

@@ -36,6 +36,7 @@ pub fn params(
 {
     let mut scope = Scope::new(alloc);
     let mut notes = Vec::new(alloc);
+    notes.reserve(raw.len())?;
     for p in raw {
         notes.push(param(alloc, tables, variables, &mut scope, p)?)?;
     }

@@ -61,6 +61,7 @@ fn unit_notes(
         (map note_syntax raw.now))) }
 {
     let mut items = Vec::new(alloc);
+    items.reserve(raw.len())?;
     for text in raw {
         items.push(unit_note(alloc, tables, variables, holes, text)?)?;
     }
@@ -142,6 +143,7 @@ fn written_units(alloc: Global, notes: &[UnitNote]) -> Result<Units, AllocError>
     ensures { IfOk result (λ units. units ≡ written_units notes.now) }
 {
     let mut items = Vec::new(alloc);
+    items.reserve(notes.len())?;
     for note in notes {
         items.push(written_unit(alloc, note)?)?;
     }

@@ -376,6 +376,7 @@ fn derive_all(walk: &Walk, parts: &[Expr], state: &mut State) -> Result<Vec<Ty>,
         (all_kept_from walk.now state.old (in_order (map expr_tree parts.now)))) }
 {
     let mut types = Vec::new(walk.alloc);
+    types.reserve(parts.len())?;
     for i in 0..parts.len() {
         types.push(derive(walk, &parts[i], state)?)?;
     }

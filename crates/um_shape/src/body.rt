@@ -200,6 +200,7 @@ fn shapes_of(
     ensures scope { IfOk result (λ _. scope.new.items ≡ scope.old.items) }
 {
     let mut shapes = Vec::new(body.alloc);
+    shapes.reserve(parts.len())?;
     for i in 0..parts.len() {
         shapes.push(shape_of(body, scope, &parts[i])?)?;
     }

@@ -126,6 +126,7 @@ fn note_shapes(alloc: Global, notes: &[Note]) -> Result<Vec<FlatShape>, NoMemory
     ensures { IfOk result (λ shapes. flat_shapes shapes.items ≡ map (λ n. note_shape (note_tree n)) notes.now) }
 {
     let mut shapes = Vec::new(alloc);
+    shapes.reserve(notes.len())?;
     for i in 0..notes.len() {
         shapes.push(FlatShape::of_note(&notes[i]))?;
     }

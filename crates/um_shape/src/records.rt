@@ -73,6 +73,7 @@ fn field_shapes(alloc: Global, fields: &[FieldDecl]) -> Result<Vec<FlatShape>, N
     ensures { IfOk result (λ shapes. flat_shapes shapes.items ≡ map (λ f. type_shape (type_tree f.ty)) fields.now) }
 {
     let mut shapes = Vec::new(alloc);
+    shapes.reserve(fields.len())?;
     for i in 0..fields.len() {
         shapes.push(FlatShape::of_type(&fields[i].ty))?;
     }

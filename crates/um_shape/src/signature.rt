@@ -40,6 +40,7 @@ fn trees(alloc: Global, shapes: &[FlatShape]) -> Result<Vec<Shape>, NoMemory>
     ensures { IfOk result (λ all. map shape_tree all.items ≡ flat_shapes shapes.now) }
 {
     let mut all = Vec::new(alloc);
+    all.reserve(shapes.len())?;
     for i in 0..shapes.len() {
         all.push(shapes[i].to_shape(alloc)?)?;
     }

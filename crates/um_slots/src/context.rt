@@ -102,6 +102,7 @@ pub fn context_of(
         names,
     };
     let mut types = Vec::new(alloc);
+    types.reserve(definition.params.len())?;
     push_types(alloc, &context, 0, definition.params, &mut types)?;
     let result = result_type(alloc, &context, first, definition.result)?;
     context.params = types;

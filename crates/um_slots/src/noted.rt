@@ -105,6 +105,7 @@ pub fn noted_type(alloc: Global, context: &Context, n: usize, note: &Note) -> Re
         Note::List(item) => Ok(Ty::List(Box::new(alloc, noted_type(alloc, context, n, item)?)?)),
         Note::Rec(record, notes) => {
             let mut units = Vec::new(alloc);
+            units.reserve(notes.items.len())?;
             push_noted(alloc, context, n, &notes.items, &mut units)?;
             Ok(Ty::Rec(*record, Units::from_vec(units)))
         }

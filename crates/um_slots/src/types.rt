@@ -21,6 +21,7 @@ pub fn copied_units(alloc: Global, units: &[Unit]) -> Result<Units, AllocError>
     ensures fits { IfOk result (λ us. IsTrue (list_all fits us)) }
 {
     let mut items = Vec::new(alloc);
+    items.reserve(units.len())?;
     for unit in units {
         items.push(unit.copy(alloc)?)?;
     }
@@ -58,6 +59,7 @@ pub fn copied_types(alloc: Global, types: &[Ty]) -> Result<Vec<Ty>, AllocError>
     ensures { IfOk result (λ ts. map type_tree ts.items ≡ map type_tree types.now) }
 {
     let mut items = Vec::new(alloc);
+    items.reserve(types.len())?;
     for ty in types {
         items.push(copied(alloc, ty)?)?;
     }
@@ -88,6 +90,7 @@ fn renamed_units(alloc: Global, by: &[Unit], units: &[Unit]) -> Result<Units, Al
     ensures fits { IfOk result (λ us. IsTrue (list_all fits us)) }
 {
     let mut items = Vec::new(alloc);
+    items.reserve(units.len())?;
     for unit in units {
         items.push(renamed_unit(alloc, by, unit)?)?;
     }

@@ -54,6 +54,7 @@ fn solved_params(alloc: Global, solver: &Solver, params: &[Ty], at: u32) -> Resu
         (RefusesUnless at (list_all type_fits (map (put (nth solver.now.units)) (map type_tree params.now)))) }
 {
     let mut items = Vec::new(alloc);
+    items.reserve(params.len() + 1)?;
     for ty in params {
         items.push(solved_type(alloc, solver, ty, at)?)?;
     }

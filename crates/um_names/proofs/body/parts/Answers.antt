@@ -49,7 +49,7 @@ returns-in_err-part-clause-faults c =
     let seen = c.loop-item.yielded in
     let x = c.in-Some.item in
     let turn = YieldsList-turn (YieldsList-from_vec {s = c.into_iter-item-iterator.result} es (search rules) (search rules)) seen c.loop-item.item-iterator c.loop-item.yielded_by c.next.result c.next.new.self x c.in-Some.is c.next.ensures.steps in
-    let p = err_from_is_err_and c.from_residual.result c.from_residual.ensures.1 in
+    let p = err_from_is_err_and c.from_residual-in_err-part.result c.from_residual-in_err-part.ensures.1 in
     let stop = c.in_err-part.field-0.0 in
     let here = subst (λ (s : Scope). IsFirst (resolved_in a.lookup.now.tables.now a.lookup.now.body.now s (expr_syntax x)) stop) c.loop-item.invariant.scope c.in_err-part.ensures.faults in
     rw (p.1, p.2)

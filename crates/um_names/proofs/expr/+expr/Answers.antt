@@ -36,7 +36,7 @@ exprs-returns-clause-exact t c =
 pub exprs-returns-in_err-expr-clause-faults : goal.exprs-returns-in_err-expr-clause-faults
 exprs-returns-in_err-expr-clause-faults t c =
     let a = c.args in
-    let p = err_from_is_err_and c.from_residual.result c.from_residual.ensures.1 in
+    let p = err_from_is_err_and c.from_residual-in_err-expr.result c.from_residual-in_err-expr.ensures.1 in
     let stop = c.in_err-expr.field-0.0 in
     let x = c.index-items-i.result in
     let here = subst (λ (s : Scope). IsFirst (resolved_in a.lookup.now.tables.now a.lookup.now.body.now s (expr_syntax x)) stop) c.loop-i.invariant.scope c.in_err-expr.ensures.faults in
@@ -54,7 +54,7 @@ field_values-returns-clause-exact t c =
 pub field_values-returns-in_err-field_value-clause-faults : goal.field_values-returns-in_err-field_value-clause-faults
 field_values-returns-in_err-field_value-clause-faults t c =
     let a = c.args in
-    let p = err_from_is_err_and c.from_residual.result c.from_residual.ensures.1 in
+    let p = err_from_is_err_and c.from_residual-in_err-field_value.result c.from_residual-in_err-field_value.ensures.1 in
     let stop = c.in_err-field_value.field-0.0 in
     let x = c.index-fields-i.result in
     let here = subst (λ (s : Scope). IsFirst (resolved_in a.lookup.now.tables.now a.lookup.now.body.now s (field_part x).part) stop) c.loop-i.invariant.scope c.in_err-field_value.ensures.faults in

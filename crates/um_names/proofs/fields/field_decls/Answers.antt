@@ -43,6 +43,6 @@ returns-in_err-field_decl-clause-faults c =
     let stop = c.in_err-field_decl.field-0.0 in
     let rest = map_from_more field_decl_syntax fs i x c.loop-text-test.true c.text-item.is in
     let there = subst (λ (ns : List (List ℕ)). IsFirst (resolved_field_decl k v ns (field_decl_syntax x)) stop) c.loop-text.invariant.own c.in_err-field_decl.ensures.faults in
-    let p = err_from_is_err_and c.from_residual.result c.from_residual.ensures.1 in
+    let p = err_from_is_err_and c.from_residual-in_err-field_decl.result c.from_residual-in_err-field_decl.ensures.1 in
     rw (p.1, p.2)
     (field_stops k v (resolved_field_decls k v [] (map field_decl_syntax fs)) (map field_tree c.loop-text.fields.items) (field_decl_syntax x) (map field_decl_syntax (drop i fs)) (map field_decl_syntax (drop (i + 1) fs)) stop c.loop-text.invariant.done rest there)

@@ -11,7 +11,8 @@ shapes_of-loop-i-init t c =
     let records = known_records known.records.items in
     let heads = heads_shapes known.heads.items in
     let vars = c.args.scope.now.items in
-    subst (λ shapes. IsLeft records heads vars c.args.parts.now 0 shapes vars) (sym c.new-shapes.ensures.items) (left_first records heads vars c.args.parts.now c.requires.low)
+    let none : c.reserve.new.self.items ≡ [] = search rules in
+    subst (λ shapes. IsLeft records heads vars c.args.parts.now 0 shapes vars) (sym none) (left_first records heads vars c.args.parts.now c.requires.low)
 
 pub shapes_of-shape_of-requires-in-loop-i : goal.shapes_of-shape_of-requires-in-loop-i
 shapes_of-shape_of-requires-in-loop-i t c =

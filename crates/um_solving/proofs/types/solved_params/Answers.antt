@@ -11,7 +11,7 @@ use Rattle.um_solving.proofs.types.solved_params.Goals as goal
 
 pub returns-in_err-solved_type-clause-range : goal.returns-in_err-solved_type-clause-range
 returns-in_err-solved_type-clause-range c =
-    let p = err_from_is_err_and c.from_residual.result c.from_residual.ensures.1 in
+    let p = err_from_is_err_and c.from_residual-in_err-solved_type.result c.from_residual-in_err-solved_type.ensures.1 in
     rw (p.1, p.2) (refused_among c.args.at (nth c.args.solver.now.units) c.args.params.now c.loop-ty.ty-index c.ty-item.result c.in_err-solved_type.field-0.0 c.loop-ty-test.true c.ty-item.is c.in_err-solved_type.ensures.range)
 
 pub returns-clause-solved : goal.returns-clause-solved
