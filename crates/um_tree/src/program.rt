@@ -104,6 +104,23 @@ impl Drop for Functions {
     }
 }
 
+/// After so many functions the list that held them gets shorter.
+const BLOCK: usize = 64;
+
+impl Functions {
+    /// Gives its memory back, from the end. The list gets shorter while its functions go: each time the C library joins
+    /// the memory of the last ones, which is still near. At the end of them all it would have to fetch it once more.
+    fn discard(self) {
+        let Functions { mut items } = self;
+        for left in (0..items.len()).rev() {
+            items.truncate(left);
+            if left % BLOCK == 0 {
+                items.shrink_to_fit();
+            }
+        }
+    }
+}
+
 /// A resolved program: its base units, its records and its functions, each in order of declaration.
 pub struct Program {
     pub bases: Names,
@@ -124,7 +141,12 @@ impl Drop for Program {
 impl Program {
     /// Gives its memory back. A crate that calls this has no proof of its own of how the trees are let go.
     pub fn discard(self) {
-        drop(self);
+        let Program {
+            bases: _,
+            records: _,
+            functions,
+        } = self;
+        functions.discard();
     }
 }
 
