@@ -40,8 +40,8 @@ impl<'a> TreeRunner<'a> {
     }
 
     /// Where a call stops, if it does so in the body of its function: at which node, on which operands, and inside
-    /// which calls. It is the one trace of the call ([`laws`](crate::laws)). There is none if the call gives a value, or
-    /// if its own call finds no budget.
+    /// which calls. It is the one trace of the call ([`laws`](crate::laws)). There is none if the call gives a value,
+    /// or if its own call finds no budget.
     ///
     /// `f` is the number of a function of the program, counted from 0, and the values have the shapes of its
     /// parameters. `NoMemory` is the one error. The rule is this project's own.
